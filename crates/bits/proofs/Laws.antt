@@ -1,0 +1,294 @@
+-- Laws of a number as a set of positions, over all numbers and positions. Assumes nothing.
+use mathlib.Core.Path.{_≡_, refl, sym, ap, ap₂, _∙_}
+use mathlib.Core.Bool.{true, false}
+use mathlib.Core.List.{[], _∷_, _++_, append-nil}
+use Prim.Native.Nat.{ℕ, zero, suc, _+_, _-_, _*_, _/_, _%_, _^_, _≤_, _<_, min, max}
+use native.Mathlib.Nat.{div-div-eq-div-mul, div-eq-of-lt, div-one, pow-succ', two-pow-succ, min-le-right, min-eq-left, max-eq-right, max-zero, min-zero, zero-mul, sub-zero, lt-of-le-of-lt, lt-of-lt-of-le, mod-lt, add-zero, one-mul, add-mul}
+use native.Mathlib.Numerals.{one-add}
+use native.Mathlib.Decide.{ℕ-discrete}
+use native.Mathlib.Omega.{arith}
+use lib.Bits.{bitAnd, bitOr, and-shr, or-shr, and-step, or-step, and-block, or-disjoint, and-mask, and-zero-r, and-le-l, and-lt, or-lt}
+use lib.Count.{ones, ones-step, ones-cat, ones-le, trailingZeros, trailing-of-zero, under}
+use lib.ListN.{length, length-append}
+use lib.Pow.{pow-pos, pow-lt, pow-mono, ones-sub-lt, shr-shr, shr-lt, split}
+use borrow.Author.Tests.{eqb-true, eqb-false, eq-eqb, ne-eqb}
+use Rattle.bits.specs.Bits.{bit, Member, member, insert, differenceOf, subset, lowest, count, times, members}
+
+-- ---- a digit at a time
+
+bit-zero : (x : ℕ) → bit x 0 ≡ x % 2
+bit-zero x = ap (λ (y : ℕ). y % 2) (div-one x)
+
+bit-suc : (x p : ℕ) → bit x (suc p) ≡ bit (x / 2) p
+bit-suc x p = rw (pow-succ' 2 p, ← div-div-eq-div-mul x 2 (2 ^ p))
+
+pub bit-of-none : (p : ℕ) → bit 0 p ≡ 0
+bit-of-none zero = refl
+bit-of-none (suc p) = bit-suc 0 p ∙ bit-of-none p
+
+pub bit-bound : (x p : ℕ) → bit x p < 2
+bit-bound x p = mod-lt (x / 2 ^ p) (omega arith)
+
+-- a number of k digits has no member from k on
+pub bit-high : (x k p : ℕ) → x < 2 ^ k → k ≤ p → bit x p ≡ 0
+bit-high x k p h l = ap (λ (y : ℕ). y % 2) (div-eq-of-lt (lt-of-lt-of-le h (pow-mono l)))
+
+-- the digits of x from s on
+pub bit-shift : (x s p : ℕ) → bit (x / 2 ^ s) p ≡ bit x (s + p)
+bit-shift x s p = ap (λ (y : ℕ). y % 2) (shr-shr x s p)
+
+-- two numbers of k digits with the same members are equal
+pub same-members : (k a b : ℕ) → a < 2 ^ k → b < 2 ^ k → ((p : ℕ) → p < k → bit a p ≡ bit b p) → a ≡ b
+same-members zero a b ha hb e = omega arith
+same-members (suc k) a b ha hb e =
+    let h : a / 2 ≡ b / 2 = same-members k (a / 2) (b / 2) (omega (arith, two-pow-succ k)) (omega (arith, two-pow-succ k)) (λ p l. sym (bit-suc a p) ∙ e (suc p) (omega arith) ∙ bit-suc b p) in
+    let l : a % 2 ≡ b % 2 = sym (bit-zero a) ∙ e 0 (omega arith) ∙ bit-zero b in
+    omega arith
+
+-- ---- the operations
+
+low-and : (a b : ℕ) → bitAnd a b % 2 ≡ min (a % 2) (b % 2)
+low-and a b = omega (arith, and-step a b)
+
+low-or : (a b : ℕ) → bitOr a b % 2 ≡ max (a % 2) (b % 2)
+low-or a b = omega (arith, or-step a b)
+
+pub bit-and : (a b p : ℕ) → bit (bitAnd a b) p ≡ min (bit a p) (bit b p)
+bit-and a b p = ap (λ (x : ℕ). x % 2) (and-shr a b p) ∙ low-and (a / 2 ^ p) (b / 2 ^ p)
+
+pub bit-or : (a b p : ℕ) → bit (bitOr a b) p ≡ max (bit a p) (bit b p)
+bit-or a b p = ap (λ (x : ℕ). x % 2) (or-shr a b p) ∙ low-or (a / 2 ^ p) (b / 2 ^ p)
+
+bit-not : (k a p : ℕ) → a < 2 ^ k → p < k → bit ((2 ^ k - 1) - a) p ≡ 1 - bit a p
+bit-not zero a p h l = absurd (omega arith)
+bit-not (suc k) a zero h l = rw (bit-zero (2 ^ suc k - 1 - a), bit-zero a) (omega (arith, two-pow-succ k))
+bit-not (suc k) a (suc p) h l =
+    let e : ((2 ^ suc k - 1) - a) / 2 ≡ (2 ^ k - 1) - a / 2 = omega (arith, two-pow-succ k) in
+    bit-suc ((2 ^ suc k - 1) - a) p ∙ ap (λ (x : ℕ). bit x p) e ∙ bit-not k (a / 2) p (omega (arith, two-pow-succ k)) (omega arith)
+    ∙ ap (λ (x : ℕ). 1 - x) (sym (bit-suc a p))
+
+pub bit-difference : (k a b q : ℕ) → b < 2 ^ k → q < k → bit (differenceOf k a b) q ≡ min (bit a q) (1 - bit b q)
+bit-difference k a b q h l = bit-and a ((2 ^ k - 1) - b) q ∙ ap (min (bit a q)) (bit-not k b q h l)
+
+-- the k low digits of x
+pub bit-low : (x k p : ℕ) → p < k → bit (x % 2 ^ k) p ≡ bit x p
+bit-low x k p l =
+    let e : x % 2 ^ k ≡ differenceOf k x 0 = sym (and-mask x k) ∙ ap (bitAnd x) (sym (sub-zero (2 ^ k - 1))) in
+    ap (λ (y : ℕ). bit y p) e ∙ bit-difference k x 0 p (pow-pos k) l ∙ rw (bit-of-none p) (min-eq-left (omega (arith, bit-bound x p)))
+
+-- ---- a set of one member
+
+half-pow : (q : ℕ) → 2 ^ suc q / 2 ≡ 2 ^ q
+half-pow q = omega (arith, two-pow-succ q)
+
+pub bit-same : (p : ℕ) → bit (2 ^ p) p ≡ 1
+bit-same zero = refl
+bit-same (suc p) = bit-suc (2 ^ suc p) p ∙ ap (λ (x : ℕ). bit x p) (half-pow p) ∙ bit-same p
+
+pub bit-other : (q p : ℕ) → (p ≡ q → ⊥) → bit (2 ^ q) p ≡ 0
+bit-other zero zero n = absurd (n refl)
+bit-other zero (suc p) n = bit-suc 1 p ∙ bit-of-none p
+bit-other (suc q) zero n = bit-zero (2 ^ suc q) ∙ omega (arith, two-pow-succ q)
+bit-other (suc q) (suc p) n = bit-suc (2 ^ suc q) p ∙ ap (λ (x : ℕ). bit x p) (half-pow q) ∙ bit-other q p (λ e. n (ap suc e))
+
+-- ---- the test of a member
+
+pub member-true : (x p : ℕ) → member x p ≡ true → Member p x
+member-true x p e = eqb-true (bit x p) 1 e
+
+pub member-is : (x p : ℕ) → Member p x → member x p ≡ true
+member-is x p m = eq-eqb (bit x p) 1 m
+
+pub member-false : (x p : ℕ) → member x p ≡ false → bit x p ≡ 0
+member-false x p e =
+    let n : bit x p ≡ 1 → ⊥ = eqb-false (bit x p) 1 e in
+    omega (arith, bit-bound x p)
+
+pub member-is-not : (x p : ℕ) → bit x p ≡ 0 → member x p ≡ false
+member-is-not x p e = ne-eqb (bit x p) 1 (λ m. omega arith)
+
+-- ---- a subset
+
+pub subset-same : (a b : ℕ) → subset a b ≡ true → bitAnd a b ≡ a
+subset-same a b e = eqb-true (bitAnd a b) a e
+
+pub subset-from : (a b : ℕ) → subset a b ≡ true → (p : ℕ) → Member p a → Member p b
+subset-from a b e p m =
+    omega (arith, min-le-right (bit a p) (bit b p), sym (bit-and a b p) ∙ ap (λ (x : ℕ). bit x p) (subset-same a b e), bit-bound b p)
+
+bit-le : (a b p : ℕ) → (Member p a → Member p b) → bit a p ≤ bit b p
+bit-le a b p f = go (bit a p) refl
+  where
+    go : (d : ℕ) → bit a p ≡ d → bit a p ≤ bit b p
+    go zero e = omega arith
+    go (suc d) e = omega (arith, f (omega (arith, bit-bound a p)))
+
+pub subset-to : (k a b : ℕ) → a < 2 ^ k → b < 2 ^ k → ((p : ℕ) → p < k → Member p a → Member p b) → subset a b ≡ true
+subset-to k a b ha hb f =
+    eq-eqb (bitAnd a b) a (same-members k (bitAnd a b) a (and-lt k a b ha hb) ha (λ p l. bit-and a b p ∙ min-eq-left (bit-le a b p (f p l))))
+
+-- every number n has at most n digits
+digits-most : (n : ℕ) → n < 2 ^ n
+digits-most zero = omega arith
+digits-most (suc n) = omega (arith, two-pow-succ n, digits-most n)
+
+pub subset-and : (a b : ℕ) → subset (bitAnd a b) b ≡ true
+subset-and a b = eq-eqb (bitAnd (bitAnd a b) b) (bitAnd a b) (same-members a (bitAnd (bitAnd a b) b) (bitAnd a b) (lt-of-le-of-lt (and-le-l (bitAnd a b) b) below) below digit)
+  where
+    below : bitAnd a b < 2 ^ a
+    below = lt-of-le-of-lt (and-le-l a b) (digits-most a)
+
+    digit : (p : ℕ) → p < a → bit (bitAnd (bitAnd a b) b) p ≡ bit (bitAnd a b) p
+    digit p l = bit-and (bitAnd a b) b p ∙ min-eq-left (omega (arith, bit-and a b p, min-le-right (bit a p) (bit b p)))
+
+-- ---- one member more
+
+pub insert-same : (x p : ℕ) → bit (insert x p) p ≡ 1
+insert-same x p = bit-or x (2 ^ p) p ∙ rw bit-same (max-eq-right (omega (arith, bit-bound x p)))
+
+pub insert-other : (x p q : ℕ) → (q ≡ p → ⊥) → bit (insert x p) q ≡ bit x q
+insert-other x p q n = bit-or x (2 ^ p) q ∙ rw (bit-other p q n) (max-zero (bit x q))
+
+pub insert-below : (k x p : ℕ) → x < 2 ^ k → p < k → insert x p < 2 ^ k
+insert-below k x p h l = or-lt k x (2 ^ p) h (pow-lt l)
+
+-- a member that is new is added
+pub insert-new : (x p : ℕ) → bit x p ≡ 0 → insert x p ≡ x + 2 ^ p
+insert-new x p e = or-disjoint x (2 ^ p) apart
+  where
+    apart : bitAnd x (2 ^ p) ≡ 0
+    apart =
+        ap₂ bitAnd (sym (split x p)) (sym (add-zero (1 * 2 ^ p) ∙ one-mul (2 ^ p)))
+        ∙ and-block p (x / 2 ^ p) 1 (x % 2 ^ p) 0 (mod-lt x (pow-pos p)) (pow-pos p)
+        ∙ rw (and-zero-r, and-mask (x / 2 ^ p) 1, e, zero-mul)
+
+-- ---- the lowest member
+
+-- t is below k and the lowest member of x
+abbrev Lowest : ℕ → ℕ → ℕ → Type 0
+Lowest k x t = (t < k) × Member t x × ((p : ℕ) → p < t → Member p x → ⊥)
+
+-- from the number's half to the number, by its lowest digit d
+lowest-step : (k x t d : ℕ) → x % 2 ≡ d → (d ≡ 0 → Lowest k (x / 2) t) → Lowest (suc k) x (under d t)
+lowest-step k x t zero e f = (omega (arith, f refl .0), bit-suc x t ∙ f refl .1, rest)
+  where
+    rest : (p : ℕ) → p < suc t → Member p x → ⊥
+    rest zero l m = omega (arith, bit-zero x)
+    rest (suc p) l m = f refl .2 p (omega arith) (sym (bit-suc x p) ∙ m)
+lowest-step k x t (suc d) e f = (omega arith, omega (arith, bit-zero x), λ p l m. omega arith)
+
+trailing-lowest : (k x : ℕ) → 0 < x → x < 2 ^ k → Lowest k x (trailingZeros k x)
+unfolding trailingZeros
+trailing-lowest zero x n h = absurd (omega arith)
+trailing-lowest (suc k) x n h =
+    lowest-step k x (trailingZeros k (x / 2)) (x % 2) refl
+    (λ e. trailing-lowest k (x / 2) (omega arith) (omega (arith, two-pow-succ k)))
+
+pub lowest-member : (x : ℕ) → 0 < x → x < 2 ^ 64 → (lowest x < 64) × Member (lowest x) x × ((p : ℕ) → p < lowest x → Member p x → ⊥)
+lowest-member x n h = trailing-lowest 64 x n h
+
+pub lowest-none : lowest 0 ≡ 64
+lowest-none = trailing-of-zero 64
+
+-- ---- how many members
+
+pub count-none : count 0 ≡ 0
+unfolding ones
+count-none = refl
+
+pub count-zero : (k x : ℕ) → x < 2 ^ k → count x ≡ 0 → x ≡ 0
+count-zero zero x h e = omega arith
+count-zero (suc k) x h e =
+    let z : x / 2 ≡ 0 = count-zero k (x / 2) (omega (arith, two-pow-succ k)) (omega (arith, ones-step x)) in
+    omega (arith, ones-step x)
+
+pub count-most : (k x : ℕ) → x < 2 ^ k → count x ≤ k
+count-most = ones-le
+
+-- the members of x from p on, and those below p
+count-parts : (x p : ℕ) → count x ≡ count (x / 2 ^ p) + count (x % 2 ^ p)
+count-parts x p = ap ones (sym (split x p)) ∙ ones-cat p (x / 2 ^ p) (x % 2 ^ p) (mod-lt x (pow-pos p))
+
+sum-parts : (x p : ℕ) → x + 2 ^ p ≡ (x / 2 ^ p + 1) * 2 ^ p + x % 2 ^ p
+sum-parts x p = rw (add-mul (x / 2 ^ p) 1 (2 ^ p), one-mul) (omega (arith, split x p))
+
+pub count-insert : (x p : ℕ) → bit x p ≡ 0 → count (insert x p) ≡ count x + 1
+count-insert x p e =
+    let h = x / 2 ^ p in
+    let q : (h + 1) / 2 ≡ h / 2 = omega arith in
+    let s : ones (h + 1) ≡ ones h + 1 = rw (ones-step (h + 1), ones-step h, q) (omega arith) in
+    let a : ones (x + 2 ^ p) ≡ ones (h + 1) + ones (x % 2 ^ p) = ap ones (sum-parts x p) ∙ ones-cat p (h + 1) (x % 2 ^ p) (mod-lt x (pow-pos p)) in
+    ap ones (insert-new x p e) ∙ omega (arith, count-parts x p)
+
+-- p is a member of a and not of b: with p taken into b, the difference has one member less
+module _ (k a b p : ℕ) (ha : a < 2 ^ k) (hb : b < 2 ^ k) (l : p < k) (m : Member p a) (e : bit b p ≡ 0) where
+  gone : bit (differenceOf k a (insert b p)) p ≡ 0
+  gone = bit-difference k a (insert b p) p (insert-below k b p hb l) l ∙ rw insert-same (min-zero (bit a p))
+
+  digit : (q : ℕ) → q < k → Dec (q ≡ p) → bit (differenceOf k a b) q ≡ bit (insert (differenceOf k a (insert b p)) p) q
+  digit q lq (yes i) =
+      let x : bit (differenceOf k a b) p ≡ 1 = bit-difference k a b p hb l ∙ rw (m, e) refl in
+      rw i (x ∙ sym (insert-same (differenceOf k a (insert b p)) p))
+  digit q lq (no n) =
+      bit-difference k a b q hb lq
+      ∙ sym (insert-other (differenceOf k a (insert b p)) p q n ∙ bit-difference k a (insert b p) q (insert-below k b p hb l) lq ∙ rw (insert-other b p q n) refl)
+
+  one-left : differenceOf k a b ≡ insert (differenceOf k a (insert b p)) p
+  one-left =
+      same-members k (differenceOf k a b) (insert (differenceOf k a (insert b p)) p) (and-lt k a (2 ^ k - 1 - b) ha (ones-sub-lt k b))
+      (insert-below k (differenceOf k a (insert b p)) p (and-lt k a (2 ^ k - 1 - insert b p) ha (ones-sub-lt k (insert b p))) l)
+      (λ q lq. digit q lq (ℕ-discrete q p))
+
+  pub count-left : count (differenceOf k a b) ≡ count (differenceOf k a (insert b p)) + 1
+  count-left = ap ones one-left ∙ count-insert (differenceOf k a (insert b p)) p gone
+
+-- ---- the members in rising order
+
+pub members-suc : (k x : ℕ) → members (suc k) x ≡ members k x ++ times (bit x k) k
+unfolding members
+members-suc k x = refl
+
+pub members-none : (k x : ℕ) → bit x k ≡ 0 → members (suc k) x ≡ members k x
+members-none k x e = rw (members-suc, e) (append-nil (members k x))
+
+pub members-one : (k x : ℕ) → bit x k ≡ 1 → members (suc k) x ≡ members k x ++ (k ∷ [])
+members-one k x e = rw (members-suc, e)
+
+pub members-same : (k x y : ℕ) → ((p : ℕ) → p < k → bit x p ≡ bit y p) → members k x ≡ members k y
+members-same zero x y f = unfold members in refl
+members-same (suc k) x y f =
+    rw (members-suc k x, members-suc k y, f k (omega arith), members-same k x y (λ p l. f p (omega arith)))
+
+pub members-empty : (k : ℕ) → members k 0 ≡ []
+members-empty zero = unfold members in refl
+members-empty (suc k) = members-none k 0 (bit-of-none k) ∙ members-empty k
+
+length-times : (d p : ℕ) → d < 2 → length (times d p) ≡ d
+length-times zero p h = refl
+length-times (suc d) p h = omega arith
+
+length-suc : (k x : ℕ) → length (members (suc k) x) ≡ length (members k x) + bit x k
+length-suc k x = rw (members-suc, length-append, length-times (bit x k) k (bit-bound x k))
+
+pub members-most : (k x : ℕ) → length (members k x) ≤ k
+members-most zero x = unfold members in omega arith
+members-most (suc k) x = omega (arith, length-suc k x, members-most k x, bit-bound x k)
+
+count-digit : (d : ℕ) → d < 2 → count d ≡ d % 2
+count-digit d h =
+    let z : d / 2 ≡ 0 = omega arith in
+    ones-step d ∙ rw (z, count-none) (add-zero (d % 2))
+
+pub members-length : (k x : ℕ) → x < 2 ^ k → length (members k x) ≡ count x
+members-length zero x h =
+    let z : x ≡ 0 = omega arith in
+    rw (z, members-empty, count-none)
+members-length (suc k) x h =
+    let e : length (members k x) ≡ length (members k (x % 2 ^ k)) = ap length (members-same k x (x % 2 ^ k) (λ p l. sym (bit-low x k p l))) in
+    let t : x / 2 ^ k < 2 ^ 1 = shr-lt 1 k (rw (one-add k) h) in
+    omega (arith, length-suc k x, members-length k (x % 2 ^ k) (mod-lt x (pow-pos k)), count-digit (x / 2 ^ k) t, count-parts x k)
+
+pub members-some : (k x : ℕ) → 0 < x → x < 2 ^ k → 0 < length (members k x)
+members-some k x n h =
+    let z : length (members k x) ≡ 0 → ⊥ = λ e. omega (arith, count-zero k x h (sym (members-length k x h) ∙ e)) in
+    omega arith

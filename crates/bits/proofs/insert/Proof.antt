@@ -1,0 +1,21 @@
+-- `bits::insert` meets its contract: the digit shifted to a position below 64 is not lost. Assumes nothing.
+use mathlib.Core.Path.{ap, _∙_}
+use native.Mathlib.Nat.{one-mul}
+use native.Mathlib.Omega.{arith}
+use Prim.Native.Nat.{_^_}
+use lib.Bits.{bitOr}
+use lib.Pow.{shl-exact}
+use borrow.Author.Needs.{needs}
+use Rattle.bits.proofs.insert.Statement.{statement}
+use Rattle.bits.proofs.insert.Tie as tie
+
+shl-result : tie.Need-shl-result
+shl-result c = search needs
+
+returns : tie.Need-returns
+returns c =
+    let p = c .args .p in
+    ap (bitOr (c .args .x)) (shl-exact 1 p 64 (omega arith) (omega arith) ∙ one-mul (2 ^ p))
+
+pub insert-spec : {M : Type 1} → statement M
+insert-spec = tie.close (tie.spec shl-result returns)

@@ -1,0 +1,2 @@
+-- Definitions of the crate bits: sets of positions.
+pub mod Bits
