@@ -1,0 +1,6 @@
+-- Laws of the crate catalogue that callers cite.
+pub mod Names
+pub mod Reading
+pub mod Topics
+pub mod Format
+pub mod Laws

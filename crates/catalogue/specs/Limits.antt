@@ -1,0 +1,14 @@
+-- The limits of a catalogue.
+use Prim.Native.Nat.{ℕ}
+
+-- document 01: "1 to 8 lines"
+abbrev pub topicsMax : ℕ
+topicsMax = 8
+
+-- "Names: 1 to 16 bytes"
+abbrev pub topicNameMax : ℕ
+topicNameMax = 16
+
+-- "one digit 1 to 8 (its partitions)"
+abbrev pub partitionsMax : ℕ
+partitionsMax = 8
