@@ -144,12 +144,15 @@ def show_frame(topics, r):
     show_reading(frame_at(topics, data))
 
 
+def letters(answers):
+    print("".join(answer[0][0] for answer in answers))
+
+
 def show_changes(topics, r):
     data = frame(topics, r)
-    print("cuts", len(data), sum(frame_at(topics, data[:k]) == ("torn",) for k in range(len(data))))
+    letters(frame_at(topics, data[:k]) for k in range(len(data) + 1))
     for i in range(len(data)):
-        verdicts = [frame_at(topics, data[:i] + bytes([b]) + data[i + 1:])[0] for b in range(256) if b != data[i]]
-        print("change", i, verdicts.count("whole"), verdicts.count("torn"))
+        letters(frame_at(topics, data[:i] + bytes([b]) + data[i + 1:]) for b in range(256))
 
 
 def record(name, **fields):
