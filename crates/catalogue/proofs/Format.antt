@@ -20,7 +20,8 @@ use Rattle.catalogue.specs.Catalogue.{between, nameByte, nameRun, digitA
 use Rattle.catalogue.specs.Format.{TopicLine, noLine, lineText, textOf, GoodLine, Renders}
 use Rattle.catalogue.proofs.Names.{new-if, new-is}
 use Rattle.catalogue.proofs.Reading.{run-take, run-bytes, run-name, between-true, LineParts, line-parts, parts-line, line-fits, lines-none, lines-suc}
-use Rattle.catalogue.proofs.Topics.{setsOf, catalogueOf, Good, Different, no-zero, good-left, good-next, good-snoc, length-snoc, with-more, held-field, sets-below, set-at, set-past, catalogue-none, with-lines}
+use Rattle.catalogue.proofs.Positions.{partitions-past}
+use Rattle.catalogue.proofs.Topics.{setsOf, catalogueOf, Good, Different, no-zero, good-left, good-next, good-snoc, length-snoc, with-more, held-field, sets-below, set-at, catalogue-none, with-lines}
 
 -- ---- a list that starts with a line is that line's text and what follows it
 
@@ -264,7 +265,7 @@ module _ (ls ms : List TopicLine) (g : Good ls) (k : Good ms) (e : catalogueOf l
       go (yes h) = h
       go (no h) =
           let u = length ms in
-          let z : partitionsIn (setsOf ls) u ≡ 0 = ap (λ (x : ℕ). partitionsIn x u) sets ∙ set-past (setsOf ms) u u (sets-below ms k) (omega arith) in
+          let z : partitionsIn (setsOf ls) u ≡ 0 = ap (λ (x : ℕ). partitionsIn x u) sets ∙ partitions-past (setsOf ms) u u (sets-below ms k) (omega arith) in
           let s : 2 ^ 1 ≤ 2 ^ getD ls u noLine .partitions = pow-mono {j = getD ls u noLine .partitions} (g u (omega arith) .some) in
           absurd (omega (arith, z, set-at ls u g (omega arith)))
 

@@ -1,18 +1,20 @@
 -- Laws of a catalogue that a text gave: its names, and the set of all positions.
 use mathlib.Core.Path.{_≡_, sym, ap, subst, _∙_}
 use mathlib.Core.List.{List}
-use Prim.Native.Nat.{ℕ, _*_, _^_, _≤_, _<_}
+use Prim.Native.Nat.{ℕ, _+_, _*_, _^_, _≤_, _<_}
 use native.Mathlib.Nat.{lt-of-lt-of-le}
 use native.Mathlib.Decide.{decLt}
 use native.Mathlib.Omega.{arith}
-use lib.ListN.{length, drop, length-take}
+use lib.ListN.{length, drop, getD, length-take}
 use lib.Pow.{pow-mono}
-use Rattle.numbers.proofs.Padded.{until-length}
+use Rattle.numbers.proofs.Padded.{until-length, until-byte}
 use Rattle.catalogue.specs.Limits.{topicNameMax}
 use Rattle.catalogue.specs.declared.Catalogue.{Catalogue}
 use Rattle.catalogue.specs.Catalogue.{nameField, topicName, partitionsIn, Distinct, accepted, parse}
 use Rattle.catalogue.specs.Format.{TopicLine}
-use Rattle.catalogue.proofs.Topics.{catalogueOf, Good, Different, setsOf, sets-below, set-past, held-name, held-sized, with-lines}
+use Rattle.catalogue.proofs.Names.{field-byte}
+use Rattle.catalogue.proofs.Positions.{partitions-past}
+use Rattle.catalogue.proofs.Topics.{catalogueOf, Good, Different, setsOf, sets-below, held-name, held-sized, with-lines}
 use Rattle.catalogue.proofs.Format.{accepted-is}
 
 -- a topic that has partitions is a line's
@@ -21,7 +23,7 @@ within ls u g h = go (decLt u (length ls))
   where
     go : Dec (u < length ls) → u < length ls
     go (yes q) = q
-    go (no q) = absurd (omega (arith, set-past (setsOf ls) (length ls) u (sets-below ls g) (omega arith)))
+    go (no q) = absurd (omega (arith, partitions-past (setsOf ls) (length ls) u (sets-below ls g) (omega arith)))
 
 lines-distinct : (ls : List TopicLine) → Good ls → Different ls → Distinct (catalogueOf ls)
 lines-distinct ls g d t u h m p q e =
@@ -31,6 +33,9 @@ lines-distinct ls g d t u h m p q e =
 -- no premise: any catalogue's names are as short
 pub name-short : (c : Catalogue) (t : ℕ) → length (topicName c t) ≤ topicNameMax
 name-short c t = omega (arith, until-length (nameField c t), length-take 16 (drop (16 * t) (c .names)))
+
+pub name-byte : (c : Catalogue) (t i : ℕ) → i < length (topicName c t) → getD (topicName c t) i 0 ≡ getD (c .names) (topicNameMax * t + i) 0
+name-byte c t i h = until-byte (nameField c t) i h ∙ field-byte c t i (omega (arith, name-short c t))
 
 module _ (text : List ℕ) (c : Catalogue) (e : parse text ≡ accepted c) where
   held : c ≡ catalogueOf (accepted-is text c e .lines)

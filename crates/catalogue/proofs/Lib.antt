@@ -1,4 +1,5 @@
 -- Laws of the crate catalogue that callers cite.
+pub mod Positions
 pub mod Names
 pub mod Reading
 pub mod Topics

@@ -3,18 +3,20 @@ use mathlib.Core.Path.{_≡_, refl, sym, _∙_}
 use mathlib.Core.Bool.{Bool, true, false, not, _&&_, and-false, true≢false}
 use mathlib.Core.List.{List}
 use Prim.Native.Nat.{ℕ, zero, suc, _+_, _-_, _*_, _%_, _^_, _≤_, _<_}
-use native.Mathlib.Nat.{one-mul, lt-of-lt-of-le, mul-le-mul-right}
+use native.Mathlib.Nat.{one-mul, lt-of-lt-of-le}
 use native.Mathlib.Numerals.{add-one}
 use native.Mathlib.Decide.{ℕ-discrete}
 use native.Mathlib.Omega.{arith}
 use lib.Dec.{eqb}
 use lib.ListN.{length, drop, getD, length-drop, drop-of-length-le}
 use lib.Seq.{drop-cons, getD-take, getD-drop, length-take-le}
-use lib.Pow.{pow-mono, pow-add, ones-lt, shl-exact}
+use lib.Pow.{pow-mono, ones-lt, shl-exact}
 use borrow.Author.Tests.{eq-eqb, ne-eqb}
 use Rattle.numbers.specs.Bytes.{same}
+use Rattle.catalogue.specs.Limits.{topicNameMax}
 use Rattle.catalogue.specs.declared.Catalogue.{Catalogue}
 use Rattle.catalogue.specs.Catalogue.{nameField, isNew}
+use Rattle.catalogue.proofs.Positions.{positions-below, positions-shifted}
 
 -- ---- two names compared, a byte at a time
 
@@ -23,12 +25,12 @@ same-step : (a b : List ℕ) (k : ℕ) → k < length a → k < length b
 unfolding same
 same-step a b k h l = rw (drop-cons a k 0 h, drop-cons b k 0 l, add-one k)
 
+pub field-byte : (c : Catalogue) (t i : ℕ) → i < topicNameMax → getD (nameField c t) i 0 ≡ getD (c .names) (topicNameMax * t + i) 0
+field-byte c t i h = getD-take topicNameMax (drop (topicNameMax * t) (c .names)) i 0 h ∙ getD-drop (topicNameMax * t) (c .names) i 0
+
 module _ (c : Catalogue) (sized : length (c .names) ≡ 128) where
   pub field-length : (t : ℕ) → t < 8 → length (nameField c t) ≡ 16
   field-length t h = length-take-le 16 (drop (16 * t) (c .names)) (rw length-drop (omega arith))
-
-  field-byte : (t i : ℕ) → i < 16 → getD (nameField c t) i 0 ≡ getD (c .names) (16 * t + i) 0
-  field-byte t i h = getD-take 16 (drop (16 * t) (c .names)) i 0 h ∙ getD-drop (16 * t) (c .names) i 0
 
   module _ (u t i : ℕ) (hu : u < 8) (ht : t < 8) where
     step : i < 16
@@ -36,7 +38,7 @@ module _ (c : Catalogue) (sized : length (c .names) ≡ 128) where
         ≡ (eqb (getD (c .names) (16 * u + i) 0) (getD (c .names) (16 * t + i) 0) && same (drop (i + 1) (nameField c u)) (drop (i + 1) (nameField c t)))
     step h =
         same-step (nameField c u) (nameField c t) i (omega (arith, field-length u hu)) (omega (arith, field-length t ht))
-        ∙ rw (field-byte u i h, field-byte t i h)
+        ∙ rw (field-byte c u i h, field-byte c t i h)
 
     pub fields-differ : i < 16 → (getD (c .names) (16 * u + i) 0 ≡ getD (c .names) (16 * t + i) 0 → ⊥)
         → same (drop i (nameField c u)) (drop i (nameField c t)) ≡ false
@@ -91,18 +93,14 @@ module _ (c : Catalogue) (t : ℕ) where
 pub shifted : (p : ℕ) → p ≤ 8 → 1 * 2 ^ p % 2 ^ 64 ≡ 2 ^ p
 shifted p h = shl-exact {a = 1} 1 p 64 (omega arith) (omega arith) ∙ one-mul (2 ^ p)
 
-pub placed : (t p : ℕ) → t < 8 → p ≤ 8 → (1 * 2 ^ p % 2 ^ 64 - 1) * 2 ^ (8 * t) % 2 ^ 64 ≡ (2 ^ p - 1) * 2 ^ (8 * t)
-placed t p h l = rw (shifted p l) (shl-exact {a = 2 ^ p - 1} 8 (8 * t) 64 (lt-of-lt-of-le (ones-lt p) (pow-mono l)) (omega arith))
-
--- eight positions for each topic
-pub next-positions : (t : ℕ) → 2 ^ (8 * (t + 1)) ≡ 256 * 2 ^ (8 * t)
-next-positions t = let e : 8 * (t + 1) ≡ 8 + 8 * t = omega arith in rw e (pow-add 2 8 (8 * t))
-
 pub ones-most : (p : ℕ) → p ≤ 8 → 2 ^ p - 1 ≤ 255
 ones-most p h = omega (arith, lt-of-lt-of-le (ones-lt p) (pow-mono h))
 
+pub placed : (t p : ℕ) → t < 8 → p ≤ 8 → (1 * 2 ^ p % 2 ^ 64 - 1) * 2 ^ (8 * t) % 2 ^ 64 ≡ (2 ^ p - 1) * 2 ^ (8 * t)
+placed t p h l = rw (shifted p l) (positions-shifted t (2 ^ p - 1) h (omega (arith, ones-most p l)))
+
 pub all-grows : (a t p : ℕ) → p ≤ 8 → a < 2 ^ (8 * t) → a + (2 ^ p - 1) * 2 ^ (8 * t) < 2 ^ (8 * (t + 1))
-all-grows a t p h l = omega (arith, next-positions t, mul-le-mul-right (2 ^ (8 * t)) (ones-most p h))
+all-grows a t p h l = rw (add-one t) (positions-below t a (2 ^ p - 1) l (omega (arith, ones-most p h)))
 
 -- a catalogue is its names and its positions
 pub made : (n m : List ℕ) (a k j : ℕ) → n ≡ m → k ≡ j → _≡_ {A = Catalogue} (record { names = n; all = a + k }) (record { names = m; all = a + j })

@@ -11,6 +11,7 @@ use lib.ListN.{length, take, drop, getD, length-drop, drop-of-length-le, List·g
 use lib.Dec.{eqb, leb}
 use lib.Seq.{drop-cons, drop-drop, getD-drop}
 use borrow.Author.Tests.{leb-true, le-leb, eqb-true, eq-eqb}
+use Rattle.numbers.proofs.Tests.{and-left, and-right}
 use Rattle.catalogue.specs.declared.Catalogue.{Catalogue}
 use Rattle.catalogue.specs.declared.Parsed.{Parsed}
 use Rattle.catalogue.specs.declared.Line.the-variants.{Topic, Bad}
@@ -69,16 +70,8 @@ run-end s i h = rw (drop-of-length-le s h) (add-zero i)
 
 -- ---- the line that a list starts with
 
-and-l : (a b : Bool) → (a && b) ≡ true → a ≡ true
-and-l true b e = refl
-and-l false b e = e
-
-and-r : (a b : Bool) → (a && b) ≡ true → b ≡ true
-and-r true b e = e
-and-r false b e = cc
-
 pub between-true : (low high b : ℕ) → between low high b ≡ true → (low ≤ b) × (b ≤ high)
-between-true low high b e = (leb-true low b (and-l (leb low b) (leb b high) e), leb-true b high (and-r (leb low b) (leb b high) e))
+between-true low high b e = (leb-true low b (and-left (leb low b) (leb b high) e), leb-true b high (and-right (leb low b) (leb b high) e))
 
 -- s starts with a line whose name has n bytes
 pub record LineParts (s : List ℕ) (n : ℕ) : Type 0 where
@@ -94,16 +87,16 @@ module _ (s : List ℕ) (n : ℕ) where
   unfolding isLine
   line-parts e h =
       let t : (between 1 16 n && eqb (getD s n 0) 9 && between 49 56 (getD s (n + 1) 0) && eqb (getD s (n + 2) 0) 10) ≡ true = rw e h in
-      let few : leb 1 n ≡ true = search (and-l, and-r) in
-      let many : leb n 16 ≡ true = search (and-l, and-r) in
-      let tab : eqb (getD s n 0) 9 ≡ true = search (and-l, and-r) in
-      let feed : eqb (getD s (n + 2) 0) 10 ≡ true = search (and-l, and-r) in
+      let few : leb 1 n ≡ true = search (and-left, and-right) in
+      let many : leb n 16 ≡ true = search (and-left, and-right) in
+      let tab : eqb (getD s n 0) 9 ≡ true = search (and-left, and-right) in
+      let feed : eqb (getD s (n + 2) 0) 10 ≡ true = search (and-left, and-right) in
       record {
         run = e;
         named = leb-true 1 n few;
         short = leb-true n 16 many;
         tab = eqb-true _ 9 tab;
-        digit = search (and-l, and-r);
+        digit = search (and-left, and-right);
         feed = eqb-true _ 10 feed;
       }
 

@@ -2,21 +2,20 @@
 use mathlib.Core.Path.{_≡_, refl, sym, ap, ap₂, _∙_}
 use mathlib.Core.Bool.{true≢false}
 use mathlib.Core.List.{List, [], _∷_, _++_, append-assoc, append-nil}
-use Prim.Native.Nat.{ℕ, zero, suc, _+_, _-_, _*_, _/_, _%_, _^_, _≤_, _<_}
-use native.Mathlib.Nat.{mul-assoc, mul-comm, div-div-eq-div-mul, div-eq-of-lt, lt-of-lt-of-le}
-use native.Mathlib.Numerals.{add-one}
+use Prim.Native.Nat.{ℕ, zero, suc, _+_, _-_, _*_, _/_, _^_, _≤_, _<_}
+use native.Mathlib.Nat.{mul-assoc, mul-comm, div-div-eq-div-mul}
 use native.Mathlib.Decide.{decLt}
 use native.Mathlib.Omega.{arith}
 use lib.ListN.{length, take, drop, getD, replicate, length-append, length-replicate, replicate-append-replicate, List·getD-append}
 use lib.Seq.{take-at, drop-at, drop-drop, append-snoc, getD-append-seam}
-use lib.Pow.{pow-mono}
 use Rattle.numbers.specs.Bytes.{laid}
 use Rattle.numbers.specs.Padded.{untilZero, padded}
-use Rattle.numbers.proofs.Padded.{length-padded, until-padded}
+use Rattle.numbers.proofs.Padded.{length-padded, until-padded, drop-zeros}
 use Rattle.catalogue.specs.declared.Catalogue.{Catalogue}
 use Rattle.catalogue.specs.Catalogue.{nameField, topicName, partitionsIn, nameByte, blank, withTopic}
 use Rattle.catalogue.specs.Format.{TopicLine, noLine, GoodLine, withLines}
-use Rattle.catalogue.proofs.Names.{next-positions, ones-most}
+use Rattle.catalogue.proofs.Positions.{next-positions}
+use Rattle.catalogue.proofs.Names.{ones-most}
 
 abbrev pub zeros : ℕ → List ℕ
 zeros n = replicate n 0
@@ -85,20 +84,17 @@ sets-cons l ls = refl
 set-most : (l : TopicLine) → GoodLine l → 2 ^ l .partitions - 1 ≤ 255
 set-most l g = ones-most (l .partitions) (g .few)
 
-eight-more : (n : ℕ) → 2 ^ (8 * suc n) ≡ 256 * 2 ^ (8 * n)
-eight-more n = rw (← add-one n) (next-positions n)
-
 pub sets-below : (ls : List TopicLine) → Good ls → setsOf ls < 2 ^ (8 * length ls)
 sets-below [] g = unfold setsOf in omega arith
 sets-below (l ∷ ls) g =
-    omega (arith, sets-cons l ls, set-most l (g 0 (omega arith)), eight-more (length ls), sets-below ls (good-tail l ls g))
+    omega (arith, sets-cons l ls, set-most l (g 0 (omega arith)), next-positions (length ls), sets-below ls (good-tail l ls g))
 
 sets-snoc : (ls : List TopicLine) (l : TopicLine) → setsOf (ls ++ (l ∷ [])) ≡ setsOf ls + (2 ^ l .partitions - 1) * 2 ^ (8 * length ls)
 sets-snoc [] l = unfold setsOf in omega arith
 sets-snoc (m ∷ ls) l =
     let d = 2 ^ l .partitions - 1 in
     let e : d * 2 ^ (8 * suc (length ls)) ≡ 256 * (d * 2 ^ (8 * length ls)) =
-    rw (eight-more (length ls), ← mul-assoc d 256 (2 ^ (8 * length ls)), mul-comm d 256, mul-assoc) refl in
+    rw (next-positions (length ls), ← mul-assoc d 256 (2 ^ (8 * length ls)), mul-comm d 256, mul-assoc) refl in
     omega (arith, sets-cons m (ls ++ (l ∷ [])), sets-cons m ls, sets-snoc ls l)
 
 pub set-at : (ls : List TopicLine) (u : ℕ) → Good ls → u < length ls → partitionsIn (setsOf ls) u ≡ 2 ^ getD ls u noLine .partitions - 1
@@ -106,20 +102,9 @@ set-at [] u g h = absurd (omega arith)
 set-at (l ∷ ls) zero g h = omega (arith, sets-cons l ls, set-most l (g 0 (omega arith)))
 set-at (l ∷ ls) (suc u) g h =
     let q : setsOf (l ∷ ls) / 256 ≡ setsOf ls = omega (arith, sets-cons l ls, set-most l (g 0 (omega arith))) in
-    rw (eight-more u, ← div-div-eq-div-mul (setsOf (l ∷ ls)) 256 (2 ^ (8 * u)), q) (set-at ls u (good-tail l ls g) (omega arith))
-
--- past the last line
-pub set-past : (x n u : ℕ) → x < 2 ^ (8 * n) → n ≤ u → partitionsIn x u ≡ 0
-set-past x n u h l =
-    let m : 2 ^ (8 * n) ≤ 2 ^ (8 * u) = pow-mono {j = 8 * u} (omega arith) in
-    ap (λ (y : ℕ). y % 256) (div-eq-of-lt (lt-of-lt-of-le h m))
+    rw (next-positions u, ← div-div-eq-div-mul (setsOf (l ∷ ls)) 256 (2 ^ (8 * u)), q) (set-at ls u (good-tail l ls g) (omega arith))
 
 -- ---- one line more
-
-drop-zeros : (k m : ℕ) → drop k (zeros m) ≡ zeros (m - k)
-drop-zeros zero m = let e : m ≡ m - 0 = omega arith in rw (← e)
-drop-zeros (suc k) zero = let e : 0 - suc k ≡ 0 = omega arith in rw e
-drop-zeros (suc k) (suc m) = let e : suc m - suc k ≡ m - k = omega arith in rw e (drop-zeros k m)
 
 pub length-snoc : (ls : List TopicLine) (l : TopicLine) → length (ls ++ (l ∷ [])) ≡ length ls + 1
 length-snoc ls l = length-append ls (l ∷ [])

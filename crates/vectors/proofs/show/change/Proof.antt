@@ -1,8 +1,7 @@
 -- `vectors::show::change` is safe and ends.
 use Prim.Native.Nat.{_≤_, _-_}
 use mathlib.Core.Path.{_≡_}
-use native.Mathlib.Omega.{arith}
-use lib.ListN.{length, length-set}
+use lib.ListN.{length}
 use borrow.Author.Needs.{needs}
 use Rattle.vectors.proofs.show.change.Statement.{statement}
 use Rattle.vectors.proofs.show.change.Tie as tie

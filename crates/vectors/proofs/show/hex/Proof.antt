@@ -1,7 +1,5 @@
 -- `vectors::show::hex` is safe and ends.
 use Prim.Native.Nat.{_≤_, _-_}
-use native.Mathlib.Omega.{arith}
-use lib.ListN.{length}
 use borrow.Author.Needs.{needs}
 use Rattle.vectors.proofs.show.hex.Statement.{statement}
 use Rattle.vectors.proofs.show.hex.Tie as tie
