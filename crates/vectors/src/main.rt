@@ -13,9 +13,9 @@ fn catalogue_of(text: &[u8]) -> Catalogue {
 }
 
 // A name padded with zeros; one that is too long is left out.
-fn padded(name: &[u8]) -> [u8; 32] {
-    let mut all = [0u8; 32];
-    if name.len() <= 32 {
+fn padded(name: &[u8]) -> [u8; record::NAME_MAX] {
+    let mut all = [0u8; record::NAME_MAX];
+    if name.len() <= record::NAME_MAX {
         numbers::copy(&mut all, 0, name);
     }
     all

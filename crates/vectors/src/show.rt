@@ -70,7 +70,7 @@ fn status(s: Status) {
 
 fn fields(r: Record) {
     let name = r.name;
-    hex(&name, 32);
+    hex(&name, record::NAME_MAX);
     signed(r.pid);
     signed(numbers::wide_i16(r.epoch));
     signed(numbers::wide_i32(r.timeout));
@@ -115,7 +115,7 @@ fn written(c: Catalogue, r: Record, out: &mut [u8]) {
 }
 
 pub fn frame(c: Catalogue, r: Record) {
-    let mut buffer = [0u8; 513];
+    let mut buffer = [0u8; record::FRAME_MAX];
     written(c, r, &mut buffer);
 }
 
@@ -182,6 +182,6 @@ fn damage(c: Catalogue, r: Record, out: &mut [u8]) {
 }
 
 pub fn damaged(c: Catalogue, r: Record) {
-    let mut buffer = [0u8; 513];
+    let mut buffer = [0u8; record::FRAME_MAX];
     damage(c, r, &mut buffer);
 }
