@@ -1,7 +1,6 @@
 // Sets of positions 0 to 63, held in a u64.
 ghost use mathlib.Core.Path.{_≡_};
-ghost use mathlib.Core.Bool.{true, false};
-ghost use Prim.Native.Nat.{ℕ, _<_};
+ghost use Prim.Native.Nat.{_<_};
 ghost use Rattle.bits.specs.Bits.{member, insert, intersection, difference, subset, lowest, count};
 
 // Whether p is a member; a position above 63 never is.

@@ -3,9 +3,10 @@ ghost use mathlib.Core.Path.{_≡_};
 ghost use Prim.Native.Nat.{_*_, _^_, _≤_, _<_};
 ghost use lib.ListN.{length, drop};
 ghost use Rattle.numbers.specs.Bytes.{same};
-ghost use Rattle.catalogue.specs.Limits.{topicsMax};
+ghost use Rattle.catalogue.specs.Limits.{topicsMax, topicNameMax, partitionsMax};
 ghost use Rattle.catalogue.specs.Catalogue.{between, nameByte, nameRun, nameField, topicName, partitionsIn, isNew, lineAt, withTopic, blank, accepted, refused, parse};
 
+// The limits of specs/Limits.antt, under the same names.
 pub const TOPICS_MAX: usize = 8;
 
 pub const TOPIC_NAME_MAX: usize = 16;
@@ -145,7 +146,7 @@ fn refused() -> Parsed
 
 // The catalogue with topic t; the topics before it are there, and none after it.
 fn with_topic(c: Catalogue, t: usize, name: &[u8], partitions: u64) -> Catalogue
-    requires { ⌜ (t < 8) × (length (now name) ≤ 16) × (1 ≤ partitions) × (partitions ≤ 8) × (c .all < 2 ^ (8 * t)) ⌝ }
+    requires { ⌜ (t < topicsMax) × (length (now name) ≤ topicNameMax) × (1 ≤ partitions) × (partitions ≤ partitionsMax) × (c .all < 2 ^ (partitionsMax * t)) ⌝ }
     ensures { λ r. ⌜ r ≡ withTopic c t (now (name .entry)) partitions ⌝ }
 {
     let mut names = c.names;
@@ -159,7 +160,7 @@ fn with_topic(c: Catalogue, t: usize, name: &[u8], partitions: u64) -> Catalogue
 
 // Whether topics u and t have the same name.
 fn same_name(c: Catalogue, u: usize, t: usize) -> bool
-    requires { ⌜ (u < 8) × (t < 8) ⌝ }
+    requires { ⌜ (u < topicsMax) × (t < topicsMax) ⌝ }
     ensures { λ r. ⌜ r ≡ same (nameField c u) (nameField c t) ⌝ }
 {
     let mut i: usize = 0;
@@ -174,7 +175,7 @@ fn same_name(c: Catalogue, u: usize, t: usize) -> bool
 
 // Whether no topic before t has its name.
 fn is_new(c: Catalogue, t: usize) -> bool
-    requires { ⌜ t < 8 ⌝ }
+    requires { ⌜ t < topicsMax ⌝ }
     ensures { λ r. ⌜ r ≡ isNew c t t ⌝ }
 {
     let mut u: usize = 0;
