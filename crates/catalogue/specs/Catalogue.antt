@@ -37,7 +37,7 @@ Distinct c = (t u : ℕ) → t < u → u < topicsMax → 0 < partitionsIn (c .al
 
 -- the catalogue with no topic
 abbrev pub blank : Catalogue
-blank = record { names = replicate 128 0; all = 0 }
+blank = record { names = replicate (topicsMax * topicNameMax) 0; all = 0 }
 
 -- the catalogue with topic t under a name, with so many partitions
 abbrev pub withTopic : Catalogue → ℕ → List ℕ → ℕ → Catalogue
@@ -46,10 +46,21 @@ withTopic c t name partitions =
 
 -- ---- reading a text
 
+abbrev pub tab : ℕ
+tab = 9
+
+abbrev pub lineFeed : ℕ
+lineFeed = 10
+
+-- the digit of a number below 10
+abbrev pub digit : ℕ → ℕ
+digit n = 48 + n
+
+-- low ≤ b ≤ high
 abbrev pub between : ℕ → ℕ → ℕ → Bool
 between low high b = leb low b && leb b high
 
--- "letters, digits, `.`, `_`, `-`"
+-- "letters, digits, `.`, `_`, `-`": a to z, A to Z, 0 to 9, and the three signs in that order
 unfoldable pub nameByte : ℕ → Bool
 nameByte b = between 97 122 b || between 65 90 b || between 48 57 b || eqb b 46 || eqb b 95 || eqb b 45
 
@@ -58,21 +69,25 @@ unfoldable pub nameRun : List ℕ → List ℕ
 nameRun [] = []
 nameRun (b ∷ s) = cond (nameByte b) (b ∷ nameRun s) []
 
--- "each a topic name, a tab, one digit 1 to 8 (its partitions) and LF": the list starts with such a line
+-- the byte behind the name and the tab
 abbrev pub digitAt : List ℕ → ℕ
 digitAt s = getD s (length (nameRun s) + 1) 0
 
+-- "each a topic name, a tab, one digit 1 to 8 (its partitions) and LF": the list starts with such a line
 unfoldable pub isLine : List ℕ → Bool
 isLine s =
-    between 1 topicNameMax (length (nameRun s)) && eqb (getD s (length (nameRun s)) 0) 9 && between 49 56 (digitAt s) && eqb (getD s (length (nameRun s) + 2) 0) 10
+    between 1 topicNameMax (length (nameRun s))
+    && eqb (getD s (length (nameRun s)) 0) tab
+    && between (digit 1) (digit partitionsMax) (digitAt s)
+    && eqb (getD s (length (nameRun s) + 2) 0) lineFeed
 
 -- the line that a list starts with, as its name's length and its partitions
 unfoldable pub lineAt : List ℕ → Line
-lineAt s = cond (isLine s) (Topic (length (nameRun s)) (digitAt s - 48)) Bad
+lineAt s = cond (isLine s) (Topic (length (nameRun s)) (digitAt s - digit 0)) Bad
 
 -- the catalogue with the line that the list starts with as topic t, and what follows the line
 abbrev pub withLine : Catalogue → ℕ → List ℕ → Catalogue
-withLine c t s = withTopic c t (nameRun s) (digitAt s - 48)
+withLine c t s = withTopic c t (nameRun s) (digitAt s - digit 0)
 
 abbrev pub afterLine : List ℕ → List ℕ
 afterLine s = drop (length (nameRun s) + 3) s
@@ -82,6 +97,7 @@ unfoldable pub isNew : Catalogue → ℕ → ℕ → Bool
 isNew c t zero = true
 isNew c t (suc u) = isNew c t u && not (same (nameField c u) (nameField c t))
 
+-- the answer to a text that gives a catalogue
 abbrev pub accepted : Catalogue → Parsed
 accepted c = record { refusal = 0; catalogue = c }
 

@@ -6,7 +6,7 @@ use mathlib.Core.List.{List, [], _∷_, _++_}
 use lib.ListN.{length, getD}
 use Rattle.catalogue.specs.Limits.{topicsMax, topicNameMax, partitionsMax}
 use Rattle.catalogue.specs.declared.Catalogue.{Catalogue}
-use Rattle.catalogue.specs.Catalogue.{blank, withTopic, nameByte}
+use Rattle.catalogue.specs.Catalogue.{blank, withTopic, nameByte, tab, digit, lineFeed}
 
 -- a line: a topic name and its partitions
 pub record TopicLine : Type 0 where
@@ -18,7 +18,7 @@ noLine = record { name = []; partitions = 0 }
 
 -- "a topic name, a tab, one digit 1 to 8 (its partitions) and LF"
 abbrev pub lineText : TopicLine → List ℕ
-lineText l = l .name ++ (9 ∷ (48 + l .partitions) ∷ 10 ∷ [])
+lineText l = l .name ++ (tab ∷ digit (l .partitions) ∷ lineFeed ∷ [])
 
 unfoldable pub textOf : List TopicLine → List ℕ
 textOf [] = []
