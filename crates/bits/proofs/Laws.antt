@@ -1,6 +1,6 @@
--- Laws of a number as a set of positions, over all numbers and positions. Assumes nothing.
+-- Laws of a number as a set of positions, over all numbers and positions.
 use mathlib.Core.Path.{_≡_, refl, sym, ap, ap₂, _∙_}
-use mathlib.Core.Bool.{true, false}
+use mathlib.Core.Bool.{Bool, true, false}
 use mathlib.Core.List.{[], _∷_, _++_, append-nil}
 use Prim.Native.Nat.{ℕ, zero, suc, _+_, _-_, _*_, _/_, _%_, _^_, _≤_, _<_, min, max}
 use native.Mathlib.Nat.{div-div-eq-div-mul, div-eq-of-lt, div-one, pow-succ', two-pow-succ, min-le-right, min-eq-left, max-eq-right, max-zero, min-zero, zero-mul, sub-zero, lt-of-le-of-lt, lt-of-lt-of-le, mod-lt, add-zero, one-mul, add-mul}
@@ -8,10 +8,11 @@ use native.Mathlib.Numerals.{one-add}
 use native.Mathlib.Decide.{ℕ-discrete}
 use native.Mathlib.Omega.{arith}
 use lib.Bits.{bitAnd, bitOr, and-shr, or-shr, and-step, or-step, and-block, or-disjoint, and-mask, and-zero-r, and-le-l, and-lt, or-lt}
+use lib.Dec.{ltb}
 use lib.Count.{ones, ones-step, ones-cat, ones-le, trailingZeros, trailing-of-zero, under}
 use lib.ListN.{length, length-append}
 use lib.Pow.{pow-pos, pow-lt, pow-mono, ones-sub-lt, shr-shr, shr-lt, split}
-use borrow.Author.Tests.{eqb-true, eqb-false, eq-eqb, ne-eqb}
+use borrow.Author.Tests.{ltb-true, ltb-false, eqb-true, eqb-false, eq-eqb, ne-eqb}
 use Rattle.bits.specs.Bits.{bit, Member, member, insert, differenceOf, subset, lowest, count, times, members}
 
 -- ---- a digit at a time
@@ -75,6 +76,18 @@ pub bit-low : (x k p : ℕ) → p < k → bit (x % 2 ^ k) p ≡ bit x p
 bit-low x k p l =
     let e : x % 2 ^ k ≡ differenceOf k x 0 = sym (and-mask x k) ∙ ap (bitAnd x) (sym (sub-zero (2 ^ k - 1))) in
     ap (λ (y : ℕ). bit y p) e ∙ bit-difference k x 0 p (pow-pos k) l ∙ rw (bit-of-none p) (min-eq-left (omega (arith, bit-bound x p)))
+
+-- ---- the first n positions
+
+pub bit-first : (n p : ℕ) → p < n → bit (2 ^ n - 1) p ≡ 1
+bit-first n p h = ap (λ (x : ℕ). bit x p) (sym (sub-zero (2 ^ n - 1))) ∙ bit-not n 0 p (pow-pos n) h ∙ ap (λ (d : ℕ). 1 - d) (bit-of-none p)
+
+pub member-first : (n p : ℕ) → member (2 ^ n - 1) p ≡ ltb p n
+member-first n p = go (ltb p n) refl
+  where
+    go : (t : Bool) → ltb p n ≡ t → member (2 ^ n - 1) p ≡ t
+    go true e = eq-eqb (bit (2 ^ n - 1) p) 1 (bit-first n p (ltb-true p n e))
+    go false e = ne-eqb (bit (2 ^ n - 1) p) 1 (omega (arith, bit-high (2 ^ n - 1) n p (omega (arith, pow-pos n)) (ltb-false p n e)))
 
 -- ---- a set of one member
 

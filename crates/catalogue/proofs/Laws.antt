@@ -5,16 +5,20 @@ use Prim.Native.Nat.{ℕ, _+_, _*_, _^_, _≤_, _<_}
 use native.Mathlib.Nat.{lt-of-lt-of-le}
 use native.Mathlib.Decide.{decLt}
 use native.Mathlib.Omega.{arith}
-use lib.ListN.{length, drop, getD, length-take}
+use lib.ListN.{length, drop, getD, length-take, List·getD-eq-default}
 use lib.Pow.{pow-mono}
 use Rattle.numbers.proofs.Padded.{until-length, until-byte}
-use Rattle.catalogue.specs.Limits.{topicNameMax}
+use lib.Dec.{ltb}
+use borrow.Author.Tests.{le-ltb}
+use Rattle.bits.specs.Bits.{member}
+use Rattle.bits.proofs.Laws.{bit-of-none, member-is-not, member-first}
+use Rattle.catalogue.specs.Limits.{topicNameMax, partitionsMax}
 use Rattle.catalogue.specs.declared.Catalogue.{Catalogue}
-use Rattle.catalogue.specs.Catalogue.{nameField, topicName, partitionsIn, Distinct, accepted, parse}
-use Rattle.catalogue.specs.Format.{TopicLine}
+use Rattle.catalogue.specs.Catalogue.{nameField, topicName, position, partitionsIn, Distinct, accepted, parse}
+use Rattle.catalogue.specs.Format.{TopicLine, noLine, Renders}
 use Rattle.catalogue.proofs.Names.{field-byte}
-use Rattle.catalogue.proofs.Positions.{partitions-past}
-use Rattle.catalogue.proofs.Topics.{catalogueOf, Good, Different, setsOf, sets-below, held-name, held-sized, with-lines}
+use Rattle.catalogue.proofs.Positions.{partition-position, partitions-past}
+use Rattle.catalogue.proofs.Topics.{catalogueOf, Good, Different, setsOf, sets-below, set-at, held-name, held-sized, with-lines}
 use Rattle.catalogue.proofs.Format.{accepted-is}
 
 -- a topic that has partitions is a line's
@@ -29,6 +33,21 @@ lines-distinct : (ls : List TopicLine) → Good ls → Different ls → Distinct
 lines-distinct ls g d t u h m p q e =
     let l = within ls u g q in
     d t u h l (sym (held-name ls t g (omega arith)) ∙ e ∙ held-name ls u g l)
+
+-- the positions of lines are those of their partitions, and no others; behind the last line there are none
+lines-positions : (ls : List TopicLine) (t p : ℕ) → Good ls → p < partitionsMax → member (setsOf ls) (position t p) ≡ ltb p (getD ls t noLine .partitions)
+lines-positions ls t p g h = sym (partition-position (setsOf ls) t p h) ∙ go (decLt t (length ls))
+  where
+    go : Dec (t < length ls) → member (partitionsIn (setsOf ls) t) p ≡ ltb p (getD ls t noLine .partitions)
+    go (yes l) = rw (set-at ls t g l) (member-first (getD ls t noLine .partitions) p)
+    go (no l) =
+        let none : getD ls t noLine ≡ noLine = List·getD-eq-default ls noLine (omega arith) in
+        rw (partitions-past (setsOf ls) (length ls) t (sets-below ls g) (omega arith), none, member-is-not 0 p (bit-of-none p)) (sym (le-ltb p 0 (omega arith)))
+
+-- document 01: "Partition p of the t-th topic (both from 0) has position 8×t+p; a set is a u64 with those bits"
+pub all-positions : (text : List ℕ) (c : Catalogue) (r : Renders text c) (t p : ℕ) → p < partitionsMax → member (c .all) (position t p) ≡ ltb p (getD (r .lines) t noLine .partitions)
+all-positions text c r t p h =
+    ap (λ (x : Catalogue). member (x .all) (position t p)) (r .held ∙ with-lines (r .lines) (r .good) (r .few)) ∙ lines-positions (r .lines) t p (r .good) h
 
 -- no premise: any catalogue's names are as short
 pub name-short : (c : Catalogue) (t : ℕ) → length (topicName c t) ≤ topicNameMax

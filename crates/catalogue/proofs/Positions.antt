@@ -1,12 +1,15 @@
 -- Laws of sets of positions, eight for each topic.
-use mathlib.Core.Path.{_≡_, ap}
+use mathlib.Core.Path.{_≡_, ap, _∙_}
 use Prim.Native.Nat.{ℕ, suc, _+_, _-_, _*_, _/_, _%_, _^_, _≤_, _<_}
 use native.Mathlib.Nat.{lt-of-lt-of-le, mod-lt, add-mul-div-right, add-mul-mod-self-right, div-eq-of-lt}
 use native.Mathlib.Omega.{arith}
 use lib.Arith.{digits-lt}
 use lib.Pow.{pow-mono, pow-add, pow-pos, shl-exact, high}
+use lib.Dec.{eqb}
+use Rattle.bits.specs.Bits.{member}
+use Rattle.bits.proofs.Laws.{bit-low, bit-shift}
 use Rattle.catalogue.specs.Limits.{topicsMax, partitionsMax}
-use Rattle.catalogue.specs.Catalogue.{partitionsIn}
+use Rattle.catalogue.specs.Catalogue.{position, partitionsIn}
 
 -- ---- bounds
 
@@ -33,6 +36,11 @@ positions-shifted t set h l = shl-exact {a = set} partitionsMax (partitionsMax *
 
 pub partitions-in-bound : (set t : ℕ) → partitionsIn set t < 2 ^ partitionsMax
 partitions-in-bound set t = mod-lt (set / 2 ^ (partitionsMax * t)) (omega arith)
+
+-- "Partition p of the t-th topic … has position 8×t+p"
+pub partition-position : (set t p : ℕ) → p < partitionsMax → member (partitionsIn set t) p ≡ member set (position t p)
+partition-position set t p h =
+    ap (λ (d : ℕ). eqb d 1) (bit-low (set / 2 ^ (partitionsMax * t)) partitionsMax p h ∙ bit-shift set (partitionsMax * t) p)
 
 -- none past the topics that the set has
 pub partitions-past : (joined n t : ℕ) → joined < 2 ^ (partitionsMax * n) → n ≤ t → partitionsIn joined t ≡ 0
