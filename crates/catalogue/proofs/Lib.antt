@@ -1,7 +1,7 @@
--- Laws of the crate catalogue that callers cite.
+-- Laws of the crate catalogue: the public modules are for callers, the others for the crate's own proofs.
 pub mod Positions
-pub mod Names
-pub mod Reading
-pub mod Topics
+mod Names
+mod Reading
+mod Topics
 pub mod Format
 pub mod Laws

@@ -6,7 +6,7 @@ use libc::STDOUT_FILENO;
 use record::Record;
 use record::Status;
 
-// The catalogue of a text; its topics are few and its text is right.
+// The catalogue of a text that is one.
 fn catalogue_of(text: &[u8]) -> Catalogue {
     let parsed = catalogue::parse(text);
     parsed.catalogue
@@ -61,6 +61,7 @@ fn extreme(name: &[u8], status: Status, joined: u64, least: bool) -> Record {
     }
 }
 
+// A record of a rig with no transaction.
 fn empty(name: &[u8]) -> Record {
     Record {
         name: padded(name),
@@ -74,6 +75,7 @@ fn empty(name: &[u8]) -> Record {
     }
 }
 
+// Texts that are catalogues, and texts that are none, each for one reason.
 fn catalogues() {
     show::parsed(b"scan\t2\ncert\t1\n");
     show::parsed(b"a\t8\nb\t8\nc\t8\nd\t8\ne\t8\nf\t8\ng\t8\nh\t8\n");

@@ -4,7 +4,6 @@ use encode::Written;
 use libc::STDOUT_FILENO;
 use record::Reading;
 use record::Record;
-use record::Status;
 
 fn space() {
     io::write_all(STDOUT_FILENO, b" ");
@@ -57,25 +56,15 @@ pub fn parsed(text: &[u8]) {
     line();
 }
 
-fn status(s: Status) {
-    match s {
-        Status::Empty => number(0),
-        Status::Begin => number(1),
-        Status::PrepareCommit => number(2),
-        Status::PrepareAbort => number(3),
-        Status::CompleteCommit => number(4),
-        Status::CompleteAbort => number(5),
-    }
-}
-
+// The fields of a record, the status by its code.
 fn fields(r: Record) {
     let name = r.name;
     hex(&name, record::NAME_MAX);
     signed(r.pid);
     signed(numbers::wide_i16(r.epoch));
     signed(numbers::wide_i32(r.timeout));
-    let s = r.status;
-    status(s);
+    let status = r.status;
+    signed(numbers::wide_i8(record::status_code(status)));
     number(r.joined);
     signed(r.updated);
     signed(r.start);
@@ -114,6 +103,7 @@ fn written(c: Catalogue, r: Record, out: &mut [u8]) {
     reading(c, out, next, 0);
 }
 
+// The frame of a record in a buffer that holds any frame.
 pub fn frame(c: Catalogue, r: Record) {
     let mut buffer = [0u8; record::FRAME_MAX];
     written(c, r, &mut buffer);
@@ -181,6 +171,7 @@ fn damage(c: Catalogue, r: Record, out: &mut [u8]) {
     change_all(c, out, next);
 }
 
+// The same in a buffer that holds any frame.
 pub fn damaged(c: Catalogue, r: Record) {
     let mut buffer = [0u8; record::FRAME_MAX];
     damage(c, r, &mut buffer);

@@ -1,4 +1,4 @@
--- `bits::insert` meets its contract: the digit shifted to a position below 64 is not lost. Assumes nothing.
+-- `bits::insert` meets its contract: the digit shifted to a position below 64 is not lost.
 use mathlib.Core.Path.{ap, _∙_}
 use native.Mathlib.Nat.{one-mul}
 use native.Mathlib.Omega.{arith}

@@ -1,4 +1,4 @@
--- `bits::member` meets its contract: from 64 on no position is a member. Assumes nothing.
+-- `bits::member` meets its contract: from 64 on no position is a member.
 use mathlib.Core.Path.{sym}
 use native.Mathlib.Omega.{arith}
 use borrow.Author.Needs.{needs}
