@@ -23,6 +23,10 @@ member x p = eqb (bit x p) 1
 abbrev pub insert : ℕ → ℕ → ℕ
 insert x p = bitOr x (2 ^ p)
 
+-- the positions of either
+abbrev pub union : ℕ → ℕ → ℕ
+union a b = bitOr a b
+
 -- the positions of both
 abbrev pub intersection : ℕ → ℕ → ℕ
 intersection a b = bitAnd a b

@@ -1,7 +1,7 @@
 // Sets of positions 0 to 63, held in a u64.
 ghost use mathlib.Core.Path.{_≡_};
 ghost use Prim.Native.Nat.{_<_};
-ghost use Rattle.bits.specs.Bits.{member, insert, intersection, difference, subset, lowest, count};
+ghost use Rattle.bits.specs.Bits.{member, insert, union, intersection, difference, subset, lowest, count};
 
 // Whether p is a member; a position above 63 never is.
 pub fn member(x: u64, p: usize) -> bool
@@ -16,6 +16,13 @@ pub fn insert(x: u64, p: usize) -> u64
     ensures { λ r. ⌜ r ≡ insert x p ⌝ }
 {
     x | (1u64 << p)
+}
+
+// The members of either set.
+pub fn union(a: u64, b: u64) -> u64
+    ensures { λ r. ⌜ r ≡ union a b ⌝ }
+{
+    a | b
 }
 
 // The members of both sets.

@@ -1,0 +1,4 @@
+-- Definitions of the crate answers.
+pub mod Limits
+pub mod Answers
+pub mod Refusals

@@ -1,0 +1,10 @@
+-- Definitions of the crate coordinator: its state, and each of its calls.
+pub mod Coordinator
+pub mod Open
+pub mod Init
+pub mod Add
+pub mod End
+pub mod Tick
+pub mod Flush
+pub mod Order
+pub mod Ack

@@ -1,0 +1,2 @@
+-- Theorems of the crate examples.
+pub mod Lines

@@ -1,0 +1,65 @@
+-- The lines of both tables hold, and every refusal of every call is among them.
+use mathlib.Core.Path.{_≡_, refl}
+use mathlib.Core.List.{map}
+use lib.Count.{ones, trailingZeros}
+use Rattle.numbers.specs.Bytes.{laid, same}
+use Rattle.numbers.specs.Integers.{bigEndian, integerBytes, integerOf, numberFrom}
+use Rattle.numbers.specs.Padded.{untilZero}
+use Rattle.bits.specs.Bits.{members}
+use Rattle.catalogue.specs.Catalogue.{nameByte, nameRun, isLine, lineAt, isNew, lines as catalogueLines, parse}
+use Rattle.record.specs.Record.{nameBytes, nameFits, validName, joinedFits, startFits, fieldsFit, wellFormed}
+use Rattle.record.specs.Frame.{key, partitionBytes, topicEntry, topicBytes, topicsBelow, countBelow, topics, value, frame}
+use Rattle.record.specs.Topics.{withPartition, partitionsBelow, partitionsOf, partitionsAt, nameStands, topicAt, past, walk}
+use Rattle.record.specs.Reading.{candidate, judged, readFrame}
+use Rattle.succession.specs.Moves.{mayFollowStatus}
+use Rattle.succession.specs.Succession.{first, initializes, begins, widens, preparesCommit, preparesAbort, completes, keeps, follows}
+use Rattle.search.specs.Search.{firstWhere, countWhere, sumOf}
+use Rattle.answers.specs.Refusals.{firstRefusal}
+use Rattle.table.specs.Scan.{succeeds, mayCome, scan}
+use Rattle.table.specs.Table.{placeOf, lowestFree, idCount, reserved, apply}
+use Rattle.coordinator.specs.Coordinator.{admits, notHeld, logFull, appended, acknowledged}
+use Rattle.coordinator.specs.Open.{readTests, takeOverTests, openTests, opening}
+use Rattle.coordinator.specs.Init.{initRow, initRowTests, initTests, initAccepted, init}
+use Rattle.coordinator.specs.Add.{allJoined, addRow, addRowTests, addTests, addAction, add}
+use Rattle.coordinator.specs.Tick.{overdue, overduePlace, tickTests, tickAccepted, tick}
+use Rattle.coordinator.specs.Flush.{flushTests, flush}
+use Rattle.coordinator.specs.End.{endFits, endRowTests, endTests, endAction, end}
+use Rattle.coordinator.specs.Order.{ordered, orderPlace, order}
+use Rattle.coordinator.specs.Ack.{ackRowTests, ackTests, ackAction, ack}
+use Rattle.partition.specs.Partition.{openPartition, openCount, oldest, admits as partitionAdmits}
+use Rattle.partition.specs.Marker.{markerTests, closed, markerAction, marker}
+use Rattle.partition.specs.Read.{nextMarker, committed, copy, readTests as readOffsetTests, readAnswer, readOut}
+use Rattle.partition.specs.Append.{lastSequence, nextSequence, produced, partitionFull}
+use Rattle.server.specs.Produce.{produceRowTests, produceTests, produce}
+use Rattle.server.specs.Calls.{Call, openLog, openWords, initCall, addCall, endCall, tickCall, flushCall, orderCall, ackCall, produceCall, markerCall, readCall}
+use Rattle.server.specs.Lines.{Line, outcome, afterAll}
+use Rattle.examples.specs.Starts.{emptyRecords, framesOf}
+use Rattle.examples.specs.FurtherLines.{furtherLines}
+use Rattle.examples.specs.RefusalLines.{refusalLines, numbersShown, runsAfter, refusalsShown}
+use Rattle.server.specs.Demand1.{refusalsOf}
+
+-- the further lines
+pub further-lines-hold : map outcome furtherLines ≡ map (λ (l : Line). l .expected) furtherLines
+unfolding outcome afterAll ones laid same bigEndian integerBytes untilZero members nameByte nameRun isLine lineAt isNew catalogueLines parse nameBytes key partitionBytes topicEntry topicBytes topicsBelow countBelow topics value frame firstWhere countWhere sumOf firstRefusal nameFits scan placeOf lowestFree idCount reserved apply admits notHeld logFull appended readTests takeOverTests openTests opening initRow initTests initRowTests initAccepted init allJoined addRow addTests addRowTests addAction add overdue overduePlace tickTests tickAccepted tick flushTests flush openPartition openCount partitionAdmits lastSequence nextSequence produced partitionFull produceTests produceRowTests produce readFrame judged candidate wellFormed validName fieldsFit joinedFits startFits integerOf numberFrom walk past topicAt nameStands partitionsAt partitionsOf partitionsBelow withPartition mayCome succeeds first follows keeps mayFollowStatus initializes begins widens preparesCommit preparesAbort completes ackTests ackRowTests ackAction ack acknowledged endFits endTests endRowTests endAction end ordered orderPlace order markerTests closed markerAction marker oldest nextMarker committed copy readOffsetTests readAnswer readOut trailingZeros emptyRecords framesOf
+further-lines-hold = refl
+
+-- the lines of the refusals
+pub refusal-lines-hold : map outcome refusalLines ≡ map (λ (l : Line). l .expected) refusalLines
+unfolding outcome afterAll ones laid same bigEndian integerBytes untilZero members nameByte nameRun isLine lineAt isNew catalogueLines parse nameBytes key partitionBytes topicEntry topicBytes topicsBelow countBelow topics value frame firstWhere countWhere sumOf firstRefusal nameFits scan placeOf lowestFree idCount reserved apply admits notHeld logFull appended readTests takeOverTests openTests opening initRow initTests initRowTests initAccepted init allJoined addRow addTests addRowTests addAction add overdue overduePlace tickTests tickAccepted tick flushTests flush openPartition openCount partitionAdmits lastSequence nextSequence produced partitionFull produceTests produceRowTests produce readFrame judged candidate wellFormed validName fieldsFit joinedFits startFits integerOf numberFrom walk past topicAt nameStands partitionsAt partitionsOf partitionsBelow withPartition mayCome succeeds first follows keeps mayFollowStatus initializes begins widens preparesCommit preparesAbort completes ackTests ackRowTests ackAction ack acknowledged endFits endTests endRowTests endAction end ordered orderPlace order markerTests closed markerAction marker oldest nextMarker committed copy readOffsetTests readAnswer readOut trailingZeros emptyRecords framesOf
+refusal-lines-hold = refl
+
+-- the table shows every refusal of every call, in the order of the call's tests
+pub every-refusal-shown : (call : Call) → refusalsShown call ≡ refusalsOf call
+unfolding numbersShown runsAfter
+every-refusal-shown (openLog text n epoch first last) = refl
+every-refusal-shown openWords = refl
+every-refusal-shown (initCall name timeout time) = refl
+every-refusal-shown (addCall name pid epoch set time) = refl
+every-refusal-shown (endCall name pid epoch verdict time) = refl
+every-refusal-shown (tickCall time) = refl
+every-refusal-shown (flushCall n) = refl
+every-refusal-shown (orderCall up) = refl
+every-refusal-shown (ackCall place pid epoch position) = refl
+every-refusal-shown (produceCall name pid epoch position sequence payload) = refl
+every-refusal-shown (markerCall place pid epoch verdict coordinator) = refl
+every-refusal-shown (readCall from) = refl

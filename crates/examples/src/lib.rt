@@ -1,0 +1,1 @@
+// Computed examples of the calls: the crate has definitions and theorems, and no functions.

@@ -1,0 +1,3 @@
+-- Laws of the crate row.
+pub mod Laws
+mod Made

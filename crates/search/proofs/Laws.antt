@@ -1,0 +1,183 @@
+-- Laws of searching a list with a test: where the first element that passes is, and how many pass; and of a sum over a list.
+use Prim.Native.Nat.{ℕ, zero, suc, _+_, _*_, _≤_, _<_}
+use mathlib.Core.Path.{_≡_, refl, ap, _∙_}
+use mathlib.Core.Bool.{Bool, true, false, cond, not}
+use mathlib.Core.Logic.{_↔_}
+use mathlib.Core.List.{List, [], _∷_, _++_}
+use native.Mathlib.Nat.{add-zero, zero-add, mul-add, mul-one}
+use native.Mathlib.Numerals.{add-one}
+use native.Mathlib.Omega.{arith}
+use lib.ListN.{length, take, drop, getD, set, replicate, drop-of-length-le}
+use lib.Seq.{take-suc, take-length, drop-cons}
+use Rattle.search.specs.Search.{firstWhere, countWhere, sumOf}
+
+-- a test passes or fails
+either : {C : Type 0} (b : Bool) → (b ≡ true → C) → (b ≡ false → C) → C
+either true f g = f refl
+either false f g = g refl
+
+-- an element of the list is the same under every default
+pub default : {A : Type 0} (l : List A) (i : ℕ) (a b : A) → i < length l → getD l i a ≡ getD l i b
+default [] i a b h = absurd (omega arith)
+default (x ∷ l) zero a b h = refl
+default (x ∷ l) (suc i) a b h = default l i a b (omega arith)
+
+-- a place with an element that the default is not like lies in the list
+pub inside : {A : Type 0} (P : A → Type 0) (l : List A) (d : A) (i : ℕ) → (P d → ⊥) → P (getD l i d) → i < length l
+inside P [] d i n h = absurd (n h)
+inside P (x ∷ l) d zero n h = omega arith
+inside P (x ∷ l) d (suc i) n h = omega (arith, inside P l d i n h)
+
+-- what holds of every element and of the default, with another element of which it holds
+pub set-each : {A : Type 0} (P : A → Type 0) (l : List A) (d : A) (i : ℕ) (x : A) → ((j : ℕ) → P (getD l j d)) → P x → (j : ℕ) → P (getD (set l i x) j d)
+set-each P [] d i x h e j = h j
+set-each P (y ∷ l) d zero x h e zero = e
+set-each P (y ∷ l) d zero x h e (suc j) = h (suc j)
+set-each P (y ∷ l) d (suc i) x h e zero = h 0
+set-each P (y ∷ l) d (suc i) x h e (suc j) = set-each P l d i x (λ k. h (suc k)) e j
+
+-- a list that repeats its default
+pub repeated : {A : Type 0} (n i : ℕ) (a : A) → getD (replicate n a) i a ≡ a
+repeated zero i a = refl
+repeated (suc n) zero a = refl
+repeated (suc n) (suc i) a = repeated n i a
+
+module _ {A : Type 0} (p : A → Bool) where
+  -- ---- the first that passes
+
+  hit : (x : A) (l : List A) → p x ≡ true → firstWhere p (x ∷ l) ≡ 0
+  unfolding firstWhere
+  hit x l e = rw e
+
+  miss : (x : A) (l : List A) → p x ≡ false → firstWhere p (x ∷ l) ≡ suc (firstWhere p l)
+  unfolding firstWhere
+  miss x l e = rw e
+
+  none : firstWhere p [] ≡ 0
+  unfolding firstWhere
+  none = refl
+
+  pub first-most : (l : List A) → firstWhere p l ≤ length l
+  first-most [] = omega (arith, none)
+  first-most (x ∷ l) = either (p x) (λ e. omega (arith, hit x l e)) (λ e. omega (arith, miss x l e, first-most l))
+
+  pub first-found : (l : List A) (d : A) → firstWhere p l < length l → p (getD l (firstWhere p l) d) ≡ true
+  first-found [] d h = absurd (omega arith)
+  first-found (x ∷ l) d h =
+      either (p x) (λ e. rw (hit x l e) e) (λ e. rw (miss x l e) (first-found l d (omega (arith, miss x l e))))
+
+  pub first-before : (l : List A) (d : A) (j : ℕ) → j < firstWhere p l → p (getD l j d) ≡ false
+  first-before [] d j h = absurd (omega (arith, none))
+  first-before (x ∷ l) d zero h = either (p x) (λ e. absurd (omega (arith, hit x l e))) (λ e. e)
+  first-before (x ∷ l) d (suc j) h =
+      either (p x) (λ e. absurd (omega (arith, hit x l e))) (λ e. first-before l d j (omega (arith, miss x l e)))
+
+  pub first-is : (l : List A) (d : A) (i : ℕ) → i < length l → p (getD l i d) ≡ true → ((j : ℕ) → j < i → p (getD l j d) ≡ false) → firstWhere p l ≡ i
+  first-is [] d i h e n = absurd (omega arith)
+  first-is (x ∷ l) d zero h e n = hit x l e
+  first-is (x ∷ l) d (suc i) h e n = miss x l (n 0 (omega arith)) ∙ ap suc (first-is l d i (omega arith) e (λ j k. n (suc j) (omega arith)))
+
+  pub first-none : (l : List A) (d : A) → ((i : ℕ) → i < length l → p (getD l i d) ≡ false) → firstWhere p l ≡ length l
+  first-none [] d n = none
+  first-none (x ∷ l) d n = miss x l (n 0 (omega arith)) ∙ ap suc (first-none l d (λ i h. n (suc i) (omega arith)))
+
+  -- the search ends past the list exactly where every element fails
+  pub first-nowhere : (l : List A) (d : A) → (length l ≤ firstWhere p l) ↔ ((i : ℕ) → i < length l → p (getD l i d) ≡ false)
+  first-nowhere l d = (λ h i k. first-before l d i (omega arith), λ n. omega (arith, first-none l d n))
+
+  -- where fewer fail than there are, one passes
+  pub first-free : (l : List A) → countWhere (λ (x : A). not (p x)) l < length l → firstWhere p l < length l
+  unfolding countWhere
+  first-free [] h = absurd (omega arith)
+  first-free (x ∷ l) h =
+      either (p x) (λ e. omega (arith, hit x l e))
+      (λ e. let k : 1 + countWhere (λ (y : A). not (p y)) l < suc (length l) = rw e at h in omega (arith, miss x l e, first-free l (omega arith)))
+
+  -- a search from a place on: at an element that passes
+  pub first-here : (l : List A) (d : A) (i : ℕ) → i < length l → p (getD l i d) ≡ true → i + firstWhere p (drop i l) ≡ i
+  first-here l d i h e = rw (drop-cons l i d h, hit (getD l i d) (drop (suc i) l) e) (add-zero i)
+
+  -- at one that fails
+  pub first-on : (l : List A) (d : A) (i : ℕ) → i < length l → p (getD l i d) ≡ false → i + firstWhere p (drop i l) ≡ i + 1 + firstWhere p (drop (i + 1) l)
+  first-on l d i h e = rw (drop-cons l i d h, miss (getD l i d) (drop (suc i) l) e, add-one i) (omega arith)
+
+  -- past the end
+  pub first-end : (l : List A) (i : ℕ) → length l ≤ i → i + firstWhere p (drop i l) ≡ i
+  first-end l i h = rw (drop-of-length-le l h, none) (add-zero i)
+
+  -- ---- how many pass
+
+  pub count-most : (l : List A) → countWhere p l ≤ length l
+  unfolding countWhere
+  count-most [] = omega arith
+  count-most (x ∷ l) = either (p x) (λ e. rw e (omega (arith, count-most l))) (λ e. rw e (omega (arith, count-most l)))
+
+  pub count-some : (l : List A) (d : A) (i : ℕ) → i < length l → p (getD l i d) ≡ true → 1 ≤ countWhere p l
+  unfolding countWhere
+  count-some [] d i h e = absurd (omega arith)
+  count-some (x ∷ l) d zero h e = rw e (omega arith)
+  count-some (x ∷ l) d (suc i) h e = omega (arith, count-some l d i (omega arith) e)
+
+  -- the count with another element at a place
+  pub count-set : (l : List A) (d : A) (i : ℕ) (x : A) → i < length l → countWhere p (set l i x) + cond (p (getD l i d)) 1 0 ≡ countWhere p l + cond (p x) 1 0
+  unfolding countWhere
+  count-set [] d i x h = absurd (omega arith)
+  count-set (y ∷ l) d zero x h = omega arith
+  count-set (y ∷ l) d (suc i) x h = omega (arith, count-set l d i x (omega arith))
+
+  count-append : (a b : List A) → countWhere p (a ++ b) ≡ countWhere p a + countWhere p b
+  unfolding countWhere
+  count-append [] b = omega arith
+  count-append (x ∷ a) b = omega (arith, count-append a b)
+
+  -- a count up to a place: one element more, and all
+  pub count-step : (l : List A) (d : A) (i : ℕ) → i < length l → countWhere p (take (i + 1) l) ≡ countWhere p (take i l) + cond (p (getD l i d)) 1 0
+  count-step l d i h = rw (add-one i, take-suc l i d h, count-append) (unfold countWhere in omega arith)
+
+  pub count-whole : (l : List A) → countWhere p (take (length l) l) ≡ countWhere p l
+  count-whole l = ap (countWhere p) (take-length l)
+
+  -- a loop that counts: at an element that passes
+  pub count-here : (l : List A) (d : A) (i : ℕ) → i < length l → (n m : ℕ) → n ≡ countWhere p (take i l) → p (getD l i d) ≡ true → m ≡ n + 1 → m ≡ countWhere p (take (i + 1) l)
+  count-here l d i h n m c e q = rw (count-step l d i h, e) (omega arith)
+
+  -- at one that fails
+  pub count-on : (l : List A) (d : A) (i : ℕ) → i < length l → (n m : ℕ) → n ≡ countWhere p (take i l) → p (getD l i d) ≡ false → m ≡ n → m ≡ countWhere p (take (i + 1) l)
+  count-on l d i h n m c e q = rw (count-step l d i h, e) (omega arith)
+
+  -- past the end
+  pub count-end : (l : List A) (i : ℕ) → length l ≡ i → countWhere p (take i l) ≡ countWhere p l
+  count-end l i e = rw (← e) (count-whole l)
+
+-- ---- the sum
+
+module _ {A : Type 0} (f : A → ℕ) where
+  -- the sum with another element at a place
+  pub sum-set : (l : List A) (d : A) (i : ℕ) (x : A) → i < length l → sumOf f (set l i x) + f (getD l i d) ≡ sumOf f l + f x
+  unfolding sumOf
+  sum-set [] d i x h = absurd (omega arith)
+  sum-set (y ∷ l) d zero x h = omega arith
+  sum-set (y ∷ l) d (suc i) x h = omega (arith, sum-set l d i x (omega arith))
+
+  sum-append : (a b : List A) → sumOf f (a ++ b) ≡ sumOf f a + sumOf f b
+  unfolding sumOf
+  sum-append [] b = omega arith
+  sum-append (x ∷ a) b = omega (arith, sum-append a b)
+
+  -- a loop that sums: at an element
+  pub sum-step : (l : List A) (d : A) (i : ℕ) → i < length l → (n m : ℕ) → n ≡ sumOf f (take i l) → m ≡ f (getD l i d) → n + m ≡ sumOf f (take (i + 1) l)
+  sum-step l d i h n m e q = rw (add-one i, take-suc l i d h, sum-append, e, q) (unfold sumOf in omega arith)
+
+  -- past the end
+  pub sum-end : (l : List A) (i : ℕ) → length l ≡ i → sumOf f (take i l) ≡ sumOf f l
+  sum-end l i e = rw (← e) (ap (sumOf f) (take-length l))
+
+  -- where no element adds more than k, and only those that pass add some
+  pub sum-most : (p : A → Bool) (k : ℕ) (l : List A) (d : A) → ((i : ℕ) → i < length l → f (getD l i d) ≤ cond (p (getD l i d)) k 0) → sumOf f l ≤ k * countWhere p l
+  unfolding sumOf countWhere
+  sum-most p k [] d h = omega arith
+  sum-most p k (x ∷ l) d h =
+      let rest = sum-most p k l d (λ i j. h (suc i) (omega arith)) in
+      let here : f x ≤ cond (p x) k 0 = h 0 (omega arith) in
+      either (p x) (λ e. let most : f x ≤ k = rw e at here in rw (e, mul-add k 1 (countWhere p l), mul-one k) (omega arith))
+      (λ e. let most : f x ≤ 0 = rw e at here in rw (e, zero-add (countWhere p l)) (omega arith))

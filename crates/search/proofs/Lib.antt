@@ -1,0 +1,2 @@
+-- Laws of the crate search.
+pub mod Laws

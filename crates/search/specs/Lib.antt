@@ -1,0 +1,2 @@
+-- Definitions of the crate search.
+pub mod Search

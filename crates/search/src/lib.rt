@@ -1,0 +1,1 @@
+// Searching a list, as definitions and laws: the crate has no functions of its own.

@@ -1,0 +1,5 @@
+-- Laws of the crate server.
+pub mod Produce
+pub mod Lines
+pub mod Demand1
+pub mod Admitted

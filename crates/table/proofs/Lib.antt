@@ -1,0 +1,4 @@
+-- Laws of the crate table.
+pub mod Laws
+mod Made
+pub mod Reserve
