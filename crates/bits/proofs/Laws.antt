@@ -154,6 +154,11 @@ subset-and a b = eq-eqb (bitAnd (bitAnd a b) b) (bitAnd a b) (same-members a (bi
     digit : (p : ℕ) → p < a → bit (bitAnd (bitAnd a b) b) p ≡ bit (bitAnd a b) p
     digit p l = bit-and (bitAnd a b) b p ∙ min-eq-left (omega (arith, bit-and a b p, min-le-right (bit a p) (bit b p)))
 
+pub subset-trans : (a b c : ℕ) → subset a b ≡ true → subset b c ≡ true → subset a c ≡ true
+subset-trans a b c e f =
+    eq-eqb (bitAnd a c) a (same-members a (bitAnd a c) a (lt-of-le-of-lt (and-le-l a c) (digits-most a)) (digits-most a)
+    (λ p l. bit-and a c p ∙ min-eq-left (bit-le a c p (λ m. subset-from b c f p (subset-from a b e p m)))))
+
 -- ---- one member more
 
 pub insert-same : (x p : ℕ) → bit (insert x p) p ≡ 1

@@ -1,5 +1,6 @@
 -- Laws of the crate coordinator: of each call by its cases; what every call tests and how it appends; and, for the functions' own proofs, what the code makes.
 pub mod Held
+pub mod OpenCases
 pub mod InitCases
 pub mod AddCases
 pub mod EndCases

@@ -1,16 +1,20 @@
 -- Order by cases: what it answers, that its place is the lowest with a marker to be written, and that it answers none only if there is none.
 use Prim.Native.Nat.{ℕ, _≤_, _<_}
-use mathlib.Core.Path.{_≡_, refl, subst}
+use mathlib.Core.Path.{_≡_, refl, sym, subst, _∙_}
 use mathlib.Core.Logic.{_↔_}
 use mathlib.Core.Bool.{Bool, true, false}
 use native.Mathlib.Omega.{arith}
+use lib.Bits.{and-zero-l}
 use lib.Dec.{ltb}
 use lib.ListN.{length}
-use borrow.Author.Tests.{ltb-true, ltb-false, lt-ltb, le-ltb, eqb-false, ne-eqb, not-true}
+use borrow.Author.Tests.{ltb-true, ltb-false, lt-ltb, le-ltb, eqb-false, ne-eqb, eq-eqb, not-true}
 use Rattle.numbers.proofs.Tests.{and-left, and-right}
-use Rattle.search.specs.Search.{firstWhere}
+use Rattle.bits.specs.Bits.{subset}
+use Rattle.bits.proofs.Laws.{subset-same, subset-trans}
+use Rattle.search.specs.Search.{firstWhere, Each}
 use Rattle.search.proofs.Laws.{first-found, first-before, first-nowhere}
-use Rattle.row.specs.Row.{freeRow, isPrepare}
+use Rattle.search.proofs.Each.{each-at, each-then, first-same}
+use Rattle.row.specs.Row.{freeRow, isPrepare, outstanding}
 use Rattle.row.specs.declared.Row.{Row}
 use Rattle.answers.specs.Limits.{places}
 use Rattle.answers.specs.declared.OrderAnswer.the-variants.{NoOrder}
@@ -73,3 +77,26 @@ module _ (s : Coordinator) (up : ℕ) where
 
     pub no-order-means : (order s up ≡ NoOrder) ↔ ((place : ℕ) → place < places → ordered (s .flushed) up (rowAt (s .table) place) ≡ false)
     no-order-means = (λ e. order-nowhere .0 (outside e), λ h. order-none (order-nowhere .1 h))
+
+-- ---- which set it is
+
+-- Where every outstanding position is in a set, an Order with more up answers the same.
+module _ (s : Coordinator) (all set : ℕ) (more : subset all set ≡ true) where
+  abbrev Within : Row → Type 0
+  Within row = subset (outstanding row) all ≡ true
+
+  due-same : (row : Row) → Within row → due row set ≡ due row all
+  due-same row h = subset-same (outstanding row) set (subset-trans (outstanding row) all set h more) ∙ sym (subset-same (outstanding row) all h)
+
+  ordered-same : (row : Row) → Within row → ordered (s .flushed) set row ≡ ordered (s .flushed) all row
+  unfolding ordered
+  ordered-same row h = rw (due-same row h)
+
+  pub order-same : Each (λ (row : Row). subset (outstanding row) all ≡ true) (s .table .rows) → order s set ≡ order s all
+  unfolding order orderPlace
+  order-same h =
+      let place = first-same (ordered (s .flushed) set) (ordered (s .flushed) all) (s .table .rows) (each-then Within _ ordered-same (s .table .rows) h) in
+      rw (place, due-same (rowAt (s .table) (firstWhere (ordered (s .flushed) all) (s .table .rows))) (each-at Within (s .table .rows) freeRow _ h free-within))
+    where
+      free-within : Within freeRow
+      free-within = eq-eqb _ _ (and-zero-l all)

@@ -1,5 +1,6 @@
 -- Laws of the crate partition.
 pub mod MarkerCases
 pub mod Laws
+pub mod Fits
 mod Made
 pub mod Reserve

@@ -1,2 +1,3 @@
 -- Laws of the crate search.
 pub mod Laws
+pub mod Each

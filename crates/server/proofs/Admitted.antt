@@ -43,7 +43,7 @@ use Rattle.server.specs.Admitted.{openedWith, Next, call, lend, afterEac
 use Rattle.server.proofs.Demand1.{init-done, tick-done, open-number, read-number, demand-1}
 use Rattle.server.proofs.Produce.{produce-passed}
 
-produce-keeps : (s : Coordinator) (p : Partition) (n : ℕ) (name : List ℕ) (pid epoch : ℤ) (position : ℕ) (sequence : ℤ) (payload : ℕ) → PartitionReserved p
+pub produce-keeps : (s : Coordinator) (p : Partition) (n : ℕ) (name : List ℕ) (pid epoch : ℤ) (position : ℕ) (sequence : ℤ) (payload : ℕ) → PartitionReserved p
     → Keeps p (produce s p n name pid epoch position sequence payload .action)
 unfolding produce
 produce-keeps s p n name pid epoch position sequence payload r =
