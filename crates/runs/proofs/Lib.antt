@@ -1,0 +1,8 @@
+-- Laws of the crate runs: of lists of items, of what each item does and leaves alone, and of the log's bytes.
+pub mod Run
+pub mod Cases
+pub mod Changes
+pub mod Decisions
+pub mod Leaves
+pub mod LogBytes
+pub mod Admitted

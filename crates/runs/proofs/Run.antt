@@ -1,0 +1,27 @@
+-- Laws of runs, whatever the items do: two lists one after the other, and what every item keeps.
+use mathlib.Core.Path.{_≡_, refl, _∙_}
+use mathlib.Core.List.{List, [], _∷_, _++_}
+use Rattle.search.specs.Search.{Each}
+use Rattle.runs.specs.World.{World, Item, step, run}
+
+pub run-append : (xs ys : List Item) (w : World) → run (xs ++ ys) w ≡ run ys (run xs w)
+unfolding run
+run-append [] ys w = refl
+run-append (x ∷ xs) ys w = run-append xs ys (step x w)
+
+-- what these items keep, a list of them keeps
+pub run-keeps-of : (I : Item → Type 0) (P : World → Type 0) → ((x : Item) (w : World) → I x → P w → P (step x w))
+    → (items : List Item) (w : World) → Each I items → P w → P (run items w)
+unfolding run
+run-keeps-of I P f [] w i p = p
+run-keeps-of I P f (x ∷ items) w (i, is) p = run-keeps-of I P f items (step x w) is (f x w i p)
+
+-- what every item keeps, every list keeps
+pub run-keeps : (P : World → Type 0) → ((x : Item) (w : World) → P w → P (step x w)) → (items : List Item) (w : World) → P w → P (run items w)
+unfolding run
+run-keeps P f [] w p = p
+run-keeps P f (x ∷ items) w p = run-keeps P f items (step x w) (f x w p)
+
+-- a value that no item changes
+pub run-same : {A : Type 0} (f : World → A) → ((x : Item) (w : World) → f (step x w) ≡ f w) → (items : List Item) (w : World) → f (run items w) ≡ f w
+run-same f same items w = run-keeps (λ (v : World). f v ≡ f w) (λ x v e. same x v ∙ e) items w refl

@@ -1,0 +1,1 @@
+// Runs of the whole server, as definitions and theorems: the crate has no functions.
