@@ -1,0 +1,4 @@
+-- Proofs of the crate run_examples.
+pub mod Evaluated
+pub mod Sound
+pub mod Promised

@@ -1,0 +1,4 @@
+-- Definitions of the crate run_examples.
+pub mod Checks
+pub mod Runs
+pub mod Examples

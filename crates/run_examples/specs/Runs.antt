@@ -1,0 +1,181 @@
+-- Example runs: a commit over two partitions that a restart splits, with a cut inside a frame; and, for each reading that tempts, a run in which it would do harm.
+use Prim.Native.Nat.{ℕ}
+use mathlib.Core.List.{List, [], _∷_, _++_}
+use lib.IntN.{pos}
+use lib.ListN.{take, drop, replicate}
+use Rattle.record.specs.declared.Record.{Record}
+use Rattle.server.specs.Lines.{rig7}
+use Rattle.runs.specs.History.{recordsOf, contents}
+use Rattle.runs.specs.LogCalls.{callInit, callAdd, callEnd, callTick}
+use Rattle.runs.specs.World.{World, FirstOpening, start, own, another, Item, call, callFlush, callOrder, callProduce, callRead, deliver, acknowledge, cut, reopen, run}
+use Rattle.runs.specs.Demand2.{WriterItem, logCall, flushCall}
+
+-- `scan` with two partitions
+abbrev pub scanText : List ℕ
+scanText = 115 ∷ 99 ∷ 97 ∷ 110 ∷ 9 ∷ 50 ∷ 10 ∷ []
+
+-- the name `lab3`
+abbrev pub lab3 : List ℕ
+lab3 = 108 ∷ 97 ∷ 98 ∷ 51 ∷ []
+
+-- the empty log in a buffer of 2,800 bytes, and room for four entries at each partition
+abbrev pub opened : FirstOpening
+opened =
+    record {
+      text = scanText;
+      log = replicate 2800 0;
+      length = 0;
+      epoch = pos 1;
+      first = pos 1000;
+      last = pos 1999;
+      words = replicate 16 0 ∷ replicate 16 0 ∷ [];
+    }
+
+-- both partitions
+abbrev pub both : ℕ
+both = 3
+
+-- ---- items of `rig7`, which has pid 1000 and epoch 0
+
+-- Add of a set
+abbrev pub join : ℕ → Item
+join set = call own (callAdd rig7 (pos 1000) (pos 0) set (pos 110))
+
+-- its first entry at a partition
+abbrev pub put : ℕ → Item
+put position = callProduce own 0 rig7 (pos 1000) (pos 0) position (pos 0) 501
+
+-- End with COMMIT
+abbrev pub ending : Item
+ending = call own (callEnd rig7 (pos 1000) (pos 0) 0 (pos 120))
+
+-- Order with both partitions up, and the order of this event carried
+abbrev pub carry : ℕ → List Item
+carry i = callOrder both ∷ deliver own i ∷ acknowledge own i ∷ []
+
+-- an opening with the next coordinator epoch
+abbrev pub reopening : Item
+reopening = reopen (pos 2) (pos 1000) (pos 1999)
+
+-- ---- a commit that a restart splits
+
+-- Init, flushed: the log ends at 53, and the next event is 3
+abbrev pub initialized : List Item
+initialized = call own (callInit rig7 (pos 60000) (pos 100)) ∷ callFlush 53 ∷ []
+
+-- Add of both partitions, flushed, and an entry at each: the log ends at 124, and the next event is 7
+abbrev pub beginning : List Item
+beginning = initialized ++ (join both ∷ callFlush 124 ∷ put 0 ∷ put 1 ∷ [])
+
+-- End, flushed: the log ends at 195, and the next event is 9
+abbrev pub prepared : List Item
+prepared = beginning ++ (ending ∷ callFlush 195 ∷ [])
+
+-- the order for partition 0 is carried, and Init of `lab3` is appended and not flushed: the log ends at 248, and the next event is 13
+abbrev pub shared : List Item
+shared = prepared ++ carry 9 ++ (call own (callInit lab3 (pos 60000) (pos 130)) ∷ [])
+
+-- the straight run: the order for partition 1 is carried, which completes the transaction
+abbrev pub straight : List Item
+straight = carry 13
+
+-- the cut run: 25 bytes of the frame of `lab3` are left, and both orders are carried anew
+abbrev pub afterCut : List Item
+afterCut = carry 15 ++ carry 17
+
+-- the end of the shared list
+abbrev pub atFork : World
+atFork = run shared (start opened)
+
+-- ---- the same log by a writer without partitions
+
+-- the calls that leave the first three records
+abbrev pub writerItems : List WriterItem
+writerItems =
+    logCall (callInit rig7 (pos 60000) (pos 100)) ∷
+    flushCall 53 ∷
+    logCall (callAdd rig7 (pos 1000) (pos 0) both (pos 110)) ∷
+    flushCall 124 ∷
+    logCall (callEnd rig7 (pos 1000) (pos 0) 0 (pos 120)) ∷
+    []
+
+-- the records that a cut at 220 leaves whole, and the 25 bytes behind them
+abbrev pub leftRecords : List Record
+leftRecords = contents (recordsOf (run (cut 220 ∷ []) atFork .history))
+
+abbrev pub leftRest : List ℕ
+leftRest = drop 195 (take 220 (atFork .log))
+
+-- ---- runs in which a reading that tempts would do harm
+
+-- an Order between End and its flush, as if it were carried; then a cut loses the prepare, and Init aborts the transaction
+abbrev pub orderedEarly : List Item
+orderedEarly =
+    beginning ++ (ending ∷ []) ++ carry 8 ++ (cut 124 ∷ reopening ∷ call own (callInit rig7 (pos 60000) (pos 130)) ∷ callFlush 195 ∷ []) ++ carry 12 ++ carry 15
+
+-- the same, with the flushed length one byte before the end of the prepare
+abbrev pub flushedShort : List Item
+flushedShort = beginning ++ (ending ∷ callFlush 194 ∷ []) ++ carry 9
+
+-- a Flush one byte past the end
+abbrev pub flushedPast : List Item
+flushedPast = initialized ++ (callFlush 54 ∷ [])
+
+-- a prepare, none of whose orders is carried before the cut; then both are
+abbrev pub restarted : List Item
+restarted = prepared ++ (cut 195 ∷ reopening ∷ [])
+
+abbrev pub restartedCarried : List Item
+restartedCarried = restarted ++ carry 11 ++ carry 14
+
+-- both orders are carried, and the cut takes the complete record; then both are carried again
+abbrev pub completeLost : List Item
+completeLost = prepared ++ carry 9 ++ carry 12 ++ (cut 195 ∷ reopening ∷ [])
+
+abbrev pub completeLostCarried : List Item
+completeLostCarried = completeLost ++ carry 18 ++ carry 20
+
+-- partition 1 joins and is not flushed, an entry is tried there, and a cut loses the widening; then partition 0 alone is committed
+abbrev pub widenedEarly : List Item
+widenedEarly =
+    initialized ++ (join 1 ∷ callFlush 120 ∷ put 0 ∷ join 2 ∷ put 1 ∷ cut 120 ∷ reopening ∷ ending ∷ callFlush 187 ∷ []) ++ carry 11
+
+-- a Tick long after the timeout of a prepare that was recovered
+abbrev pub tickedLate : List Item
+tickedLate = restarted ++ (call own (callTick (pos 999999)) ∷ [])
+
+-- ---- what is not carried
+
+-- an order after which another call comes, and then its partition and its Ack
+abbrev pub carriedLate : List Item
+carriedLate = prepared ++ (callOrder both ∷ callFlush 195 ∷ deliver own 9 ∷ acknowledge own 9 ∷ [])
+
+-- an order that is given to its partition twice and acknowledged twice
+abbrev pub carriedTwice : List Item
+carriedTwice = prepared ++ (callOrder both ∷ deliver own 9 ∷ deliver own 9 ∷ acknowledge own 9 ∷ acknowledge own 9 ∷ [])
+
+-- an acknowledgement without a marker
+abbrev pub acknowledgedOnly : List Item
+acknowledgedOnly = prepared ++ (callOrder both ∷ acknowledge own 9 ∷ [])
+
+-- ---- other starts, and slices that meet 8
+
+-- a first opening of what that cut left of the log: three records, so that the next event is 4
+abbrev pub openedLater : FirstOpening
+openedLater = record { text = scanText; log = atFork .log; length = 220; epoch = pos 2; first = pos 1000; last = pos 1999; words = opened .words }
+
+-- calls that are lent a slice of no bytes or words, an entry for a position outside the catalogue, and orders that are lost on their way
+abbrev pub lentOthers : List Item
+lentOthers =
+    prepared
+    ++ (call (another []) (callInit lab3 (pos 60000) (pos 130)) ∷
+    callProduce (another []) 0 rig7 (pos 1000) (pos 0) 0 (pos 1) 502 ∷
+    callProduce own 1 rig7 (pos 1000) (pos 0) 70 (pos 1) 502 ∷
+    callRead own 0 0 [] ∷
+    callOrder both ∷
+    deliver (another []) 9 ∷
+    acknowledge own 9 ∷
+    callOrder both ∷
+    deliver own 10 ∷
+    acknowledge (another []) 10 ∷
+    [])

@@ -1,0 +1,1 @@
+// Computed examples of runs: the crate has definitions and theorems, and no functions.
