@@ -1,4 +1,4 @@
--- Further lines like T1 to T12: the readings that tempt, and for each call the cases in which it is accepted.
+-- Further lines like T1 to T12: the readings that tempt, for each call the cases in which it is accepted, and refused calls that leave all as it was.
 use mathlib.Core.List.{List, [], _∷_, _++_}
 use lib.IntN.{pos, negsuc}
 use lib.ListN.{replicate}
@@ -336,6 +336,15 @@ readLines =
     line 2560 8 (begins (pos 50)) (readCall 0) 0 (pos 0 ∷ pos 0 ∷ []) 1 0 ∷
     []
 
+-- "Every refusal leaves all as it was": each refused call stands before one that would show a change
+abbrev pub refusedLines : List Line
+refusedLines =
+    -- an Ack of another epoch, a Flush past the end, a Marker of verdict 2
+    line 2560 8 (prepares 0 ++ (ackCall 0 (pos 1000) (pos 1) 0 ∷ [])) (orderCall 257) 0 (pos 0 ∷ pos 1000 ∷ pos 0 ∷ pos 0 ∷ pos 0 ∷ pos 1 ∷ []) 1 0 ∷
+    line 2560 8 (begins (pos 50) ++ (put ∷ end7 0 ∷ flushCall 188 ∷ [])) (orderCall 257) 0 [] 1 0 ∷
+    writes (1000 ∷ 1 ∷ 1 ∷ 0 ∷ []) (line 2560 8 (prepares 0 ++ (markerCall 0 (pos 1000) (pos 0) 2 (pos 9) ∷ [])) (mark 0) 0 [] 1 0) ∷
+    []
+
 abbrev pub furtherLines : List Line
 furtherLines =
-    temptingLines ++ openingLines ++ initLines ++ addLines ++ endLines ++ tickLines ++ flushLines ++ orderLines ++ ackLines ++ produceLines ++ markerLines ++ readLines
+    temptingLines ++ openingLines ++ initLines ++ addLines ++ endLines ++ tickLines ++ flushLines ++ orderLines ++ ackLines ++ produceLines ++ markerLines ++ readLines ++ refusedLines
