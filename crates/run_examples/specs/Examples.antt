@@ -32,10 +32,10 @@ pub data Example : Type 0 where
   flushPastEnd : Example
   -- "Letting Produce in on a widened set that isn't flushed."
   widenedNotFlushed : Example
-  -- "Aborting a recovered prepare because its timeout has passed."
-  timeoutPassed : Example
   -- "Trusting acknowledgements from before a cut."
   ordersAfterRestart completesAfterRestart completesAgain : Example
+  -- "Aborting a recovered prepare because its timeout has passed."
+  timeoutPassed : Example
   -- between a cut inside a frame and the opening, which is accepted
   cutInsideFrame : Example
   -- the cut run from the fork
@@ -97,10 +97,10 @@ holds orderBeforeFlush = let w = after orderedEarly in forFlushedPrepare w && un
 holds orderBeforeWholeFlush = forFlushedPrepare (after flushedShort)
 holds flushPastEnd = holdsAt (after flushedPast)
 holds widenedNotFlushed = holdsAt (after widenedEarly)
-holds timeoutPassed = promised (after restarted) (after tickedLate)
 holds ordersAfterRestart = let w = after completeLost in eqb (length (pendingPrepares (w .history))) 1 && holdsAt w
 holds completesAfterRestart = promised (after restarted) (after restartedCarried)
 holds completesAgain = promised (after completeLost) (after completeLostCarried)
+holds timeoutPassed = promised (after restarted) (after tickedLate)
 holds cutInsideFrame = promised atFork (run (cut 220 ∷ []) atFork)
 holds cutRun = promised atFork cutRunEnd
 holds openedWithRecords = promised (start openedLater) laterEnd
