@@ -4,7 +4,7 @@ use mathlib.Core.Path.{_≡_, refl}
 use mathlib.Core.Bool.{true, _&&_}
 use mathlib.Core.List.{List, [], _∷_, _++_}
 use lib.IntN.{pos}
-use lib.ListN.{take, replicate}
+use lib.ListN.{take}
 use borrow.Author.Tests.{eqb-true}
 use Rattle.numbers.proofs.Bytes.{same-true}
 use Rattle.numbers.proofs.Tests.{and-left, and-right}
@@ -20,7 +20,7 @@ use Rattle.runs.specs.Demand2.{Openable}
 use Rattle.runs.specs.Demand3.{Kept, Promised}
 use Rattle.runs.specs.InEveryRun.{ReadsFrom}
 use Rattle.run_examples.specs.Checks.{kept, completesInTime, holdsAt}
-use Rattle.run_examples.specs.Runs.{scanText, straight, atFork, writerItems, leftRecords, leftRest}
+use Rattle.run_examples.specs.Runs.{scanText, buffer, lengthLeft, straight, afterShared, writerItems, leftRecords, leftRest}
 use Rattle.run_examples.specs.Examples.{holds, promised, straightRun, cutInsideFrame, cutRun, couldHaveWritten, readsCommitted, cutRunItems, writerOpening, writerEnd}
 use Rattle.run_examples.proofs.Evaluated.{examples-hold}
 use Rattle.run_examples.proofs.Sound.{kept-true, in-time-true, holds-true, reads-true}
@@ -34,33 +34,33 @@ promised-true w items e =
       completes-in-time = in-time-true w items (search (and-left, and-right) depth 10);
     }
 
-pub straight-promised : Promised atFork straight
-straight-promised = promised-true atFork straight (examples-hold straightRun)
+pub straight-promised : Promised afterShared straight
+straight-promised = promised-true afterShared straight (examples-hold straightRun)
 
 -- between the cut inside a frame and the opening, and to the end
-pub down-promised : Promised atFork (cut 220 ∷ [])
-down-promised = promised-true atFork (cut 220 ∷ []) (examples-hold cutInsideFrame)
+pub down-promised : Promised afterShared (cut lengthLeft ∷ [])
+down-promised = promised-true afterShared (cut lengthLeft ∷ []) (examples-hold cutInsideFrame)
 
-pub cut-promised : Promised atFork cutRunItems
-cut-promised = promised-true atFork cutRunItems (examples-hold cutRun)
+pub cut-promised : Promised afterShared cutRunItems
+cut-promised = promised-true afterShared cutRunItems (examples-hold cutRun)
 
 -- what the cut left: the records could have been written, and the rest is torn
-pub openable : Openable scanText (take 220 (atFork .log)) leftRecords leftRest
+pub openable : Openable scanText (take lengthLeft (afterShared .log)) leftRecords leftRest
 openable = go (examples-hold couldHaveWritten)
   where
     frames : List ℕ
     frames = framesOf (parse scanText .catalogue) leftRecords
 
-    go : holds couldHaveWritten ≡ true → Openable scanText (take 220 (atFork .log)) leftRecords leftRest
+    go : holds couldHaveWritten ≡ true → Openable scanText (take lengthLeft (afterShared .log)) leftRecords leftRest
     go e =
         record {
-          bytes-are = same-true (take 220 (atFork .log)) (frames ++ leftRest) (search (and-left, and-right) depth 10);
+          bytes-are = same-true (take lengthLeft (afterShared .log)) (frames ++ leftRest) (search (and-left, and-right) depth 10);
           written =
               record {
                 well-formed = each-true _ (wellFormed (parse scanText .catalogue)) (λ r t. t) leftRecords (search (and-left, and-right) depth 10);
                 start =
                     record {
-                      log = replicate 2800 0;
+                      log = buffer;
                       epoch = pos 1;
                       first = pos 1000;
                       last = pos 1999;
@@ -74,8 +74,8 @@ openable = go (examples-hold couldHaveWritten)
         }
 
 -- Read of partition 0 from its first entry on, into two words
-pub read-committed : ReadsFrom (run straight atFork) 0 (leaderAt (run straight atFork) 0) 0 (0 ∷ 0 ∷ [])
+pub read-committed : ReadsFrom (run straight afterShared) 0 (leaderAt (run straight afterShared) 0) 0 (0 ∷ 0 ∷ [])
 read-committed = go (examples-hold readsCommitted)
   where
-    go : holds readsCommitted ≡ true → ReadsFrom (run straight atFork) 0 (leaderAt (run straight atFork) 0) 0 (0 ∷ 0 ∷ [])
-    go e = reads-true (run straight atFork) 0 (leaderAt (run straight atFork) 0) 0 (0 ∷ 0 ∷ []) (search (and-left, and-right) depth 10)
+    go : holds readsCommitted ≡ true → ReadsFrom (run straight afterShared) 0 (leaderAt (run straight afterShared) 0) 0 (0 ∷ 0 ∷ [])
+    go e = reads-true (run straight afterShared) 0 (leaderAt (run straight afterShared) 0) 0 (0 ∷ 0 ∷ []) (search (and-left, and-right) depth 10)

@@ -11,7 +11,7 @@ use borrow.Author.Tests.{eqb-true, leb-true, le-leb, not-true}
 use Rattle.numbers.specs.Bytes.{same}
 use Rattle.numbers.proofs.Border.{eqZ-true}
 use Rattle.numbers.proofs.Bytes.{same-true}
-use Rattle.numbers.proofs.Tests.{and-left, and-right, or-either}
+use Rattle.numbers.proofs.Tests.{and-left, and-right, or-either, not-both}
 use Rattle.bits.specs.Bits.{subset}
 use Rattle.catalogue.specs.declared.Catalogue.{Catalogue}
 use Rattle.record.specs.Frame.{frame}
@@ -39,11 +39,11 @@ use Rattle.partition.specs.Limits.{entryWords}
 use Rattle.answers.specs.declared.ReadAnswer.{ReadAnswer}
 use Rattle.answers.specs.declared.ReadAnswer.the-variants.{Copied, Refused as ReadRefused}
 use Rattle.partition.specs.Read.{standsUnder, readAnswer, readOut}
-use Rattle.runs.specs.History.{Order, Produced, History, ordersIn, producedIn, markersIn, collect, Past, pasts, Logged, recordsOf, contents, framesOf, endOf, flushedOf, recordNumbered, latestOf, nextOf, listed, isCompleted, completedPrepares, pendingPrepares, transaction, carriedFor, markersLike, wordsOf}
+use Rattle.runs.specs.History.{Order, Produced, History, ordersIn, producedIn, markersIn, collect, WithBefore, collectWithBefore, Logged, recordsOf, contents, framesOf, endOf, flushedOf, recordNumbered, latestOf, nextOf, listed, isCompleted, completedPrepares, pendingPrepares, transaction, carriedFor, markersFor, wordsOf}
 use Rattle.runs.specs.World.{Leader, Phase, up, down, Carrying, nothing, toDeliver, toAcknowledge, World, catalogueOf, leaderAt, Item, run}
-use Rattle.runs.specs.Demand3.{Completes, Kept, Ends, SameLengths, LogAgrees, Entitled, WordsAgree, IsFor, ForFlushedPrepare, OneMarker, UnderItsVerdict, GivenBy, OrdersGo, AckDone, CarryingGoes, CompletesInTime, Restarts, HoldsAt}
+use Rattle.runs.specs.Demand3.{Completes, Kept, Ends, SameLengths, LogAgrees, Entitled, WordsAgree, IsFor, ForFlushedPrepare, OneMarker, UnderItsVerdict, GivenUpTo, OrdersGiven, AckDone, CarryingAccepted, CompletesInTime, Restarts, HoldsAt}
 use Rattle.runs.specs.InEveryRun.{ReadsFrom}
-use Rattle.run_examples.specs.Checks.{sameRecord, sameLogged, completes, kept, ends, sameLengths, logAgrees, entitled, wordsAgree, isFor, forFlushedPrepare, oneMarker, standsUnderVerdict, underItsVerdict, isDone, ackDone, carryingGoes, completesInTime, givenBy, ordersGo, restarts, holdsAt, isCopied, readsFrom}
+use Rattle.run_examples.specs.Checks.{sameRecord, sameLogged, completes, kept, ends, sameLengths, logAgrees, entitled, wordsAgree, isFor, forFlushedPrepare, oneMarker, standsUnderVerdict, underItsVerdict, isDone, ackDone, carryingAccepted, completesInTime, givenUpTo, ordersGiven, restarts, holdsAt, isCopied, readsFrom}
 
 -- ---- kept
 
@@ -96,7 +96,7 @@ same-logged x p e = go
     go = λ i. record { number = numbers i; content = contentsSame i; end = ended i }
 
 same-found : (p : Logged) (o : Option Logged) → found (λ (x : Logged). sameLogged x p) o ≡ true → o ≡ some p
-same-found p none e = absurd (true≢false (sym e))
+same-found p none e = not-both refl e
 same-found p (some x) e = ap some (same-logged x p e)
 
 completes-true : (p c : Logged) → completes p c ≡ true → Completes p c
@@ -144,9 +144,9 @@ log-true w e =
     }
 
 is-begin : (s : Status) → isBegin s ≡ true → s ≡ Begin
-is-begin = each (λ s. isBegin s ≡ true → s ≡ Begin) (λ e. absurd (true≢false (sym e))) (λ e. refl) (λ e. absurd (true≢false (sym e))) (λ e. absurd (true≢false (sym e))) (λ e. absurd (true≢false (sym e))) (λ e. absurd (true≢false (sym e)))
+is-begin = each (λ s. isBegin s ≡ true → s ≡ Begin) (λ e. not-both refl e) (λ e. refl) (λ e. not-both refl e) (λ e. not-both refl e) (λ e. not-both refl e) (λ e. not-both refl e)
 
-entitled-true : (p : Past Produced) → entitled p ≡ true → Found (Entitled (p .what) (p .before)) (latestOf (p .what .name) (p .before))
+entitled-true : (p : WithBefore Produced) → entitled p ≡ true → Found (Entitled (p .what) (p .before)) (latestOf (p .what .name) (p .before))
 entitled-true p =
     found-true (Entitled (p .what) (p .before)) _
     (λ x e. record {
@@ -165,10 +165,10 @@ words-true w e =
           each-at-true _ (λ x (l : Leader). same (take (entryWords * l .partition .end) (l .words)) (wordsOf x (w .history)))
           (λ x l. same-true (take (entryWords * l .partition .end) (l .words)) (wordsOf x (w .history))) 0 (w .leaders)
           (search (and-left, and-right));
-      entitled = each-true _ entitled entitled-true (pasts producedIn (w .history)) (search (and-left, and-right));
+      entitled = each-true _ entitled entitled-true (collectWithBefore producedIn (w .history)) (search (and-left, and-right));
       offsets =
-          each-true _ (λ (p : Past Produced). eqb (entryWords * p .what .offset) (length (wordsOf (p .what .position) (p .before))))
-          (λ p. eqb-true (entryWords * p .what .offset) (length (wordsOf (p .what .position) (p .before)))) (pasts producedIn (w .history))
+          each-true _ (λ (p : WithBefore Produced). eqb (entryWords * p .what .offset) (length (wordsOf (p .what .position) (p .before))))
+          (λ p. eqb-true (entryWords * p .what .offset) (length (wordsOf (p .what .position) (p .before)))) (collectWithBefore producedIn (w .history))
           (search (and-left, and-right));
     }
 
@@ -176,9 +176,9 @@ words-true w e =
 
 not-found : {A : Type 0} (o : Option A) → not (isFound o) ≡ true → o ≡ none
 not-found none e = refl
-not-found (some x) e = absurd (true≢false (sym e))
+not-found (some x) e = not-both refl e
 
-is-for-true : (p : Past Order) → isFor p ≡ true → Found (IsFor (p .what) (p .before)) (recordNumbered (p .what .for) (p .before))
+is-for-true : (p : WithBefore Order) → isFor p ≡ true → Found (IsFor (p .what) (p .before)) (recordNumbered (p .what .for) (p .before))
 is-for-true p =
     found-true (IsFor (p .what) (p .before)) _
     (λ x e. record {
@@ -193,11 +193,11 @@ is-for-true p =
     (recordNumbered (p .what .for) (p .before))
 
 for-flushed-true : (w : World) → forFlushedPrepare w ≡ true → ForFlushedPrepare w
-for-flushed-true w e = each-true _ isFor is-for-true (pasts ordersIn (w .history)) e
+for-flushed-true w e = each-true _ isFor is-for-true (collectWithBefore ordersIn (w .history)) e
 
 one-marker-true : (w : World) → oneMarker w ≡ true → OneMarker w
 one-marker-true w e =
-    each-true _ (λ (o : Order). eqb (markersLike o (w .history)) 1) (λ o. eqb-true (markersLike o (w .history)) 1) (collect markersIn (w .history)) e
+    each-true _ (λ (o : Order). eqb (markersFor o (w .history)) 1) (λ o. eqb-true (markersFor o (w .history)) 1) (collect markersIn (w .history)) e
 
 under-true : (w : World) → underItsVerdict w ≡ true → UnderItsVerdict w
 under-true w e =
@@ -211,13 +211,13 @@ under-true w e =
 
 done-true : (a : Answer) → isDone a ≡ true → a ≡ Done
 done-true Done e = refl
-done-true (Refused number) e = absurd (true≢false (sym e))
+done-true (Refused number) e = not-both refl e
 
 ack-true : (phase : Phase) (w : World) (o : Order) → ackDone phase w o ≡ true → AckDone phase w o
 ack-true (up s) w o e = done-true _ e
-ack-true (down n epoch) w o e = absurd (true≢false (sym e))
+ack-true (down n epoch) w o e = not-both refl e
 
-carrying-true : (c : Carrying) (w : World) → carryingGoes c w ≡ true → CarryingGoes c w
+carrying-true : (c : Carrying) (w : World) → carryingAccepted c w ≡ true → CarryingAccepted c w
 carrying-true nothing w e = tt
 carrying-true (toDeliver i o) w e = done-true _ e
 carrying-true (toAcknowledge i o) w e = ack-true (w .phase) w o e
@@ -230,13 +230,13 @@ in-time-true w items e undisturbed =
     (λ few. absurd (true≢false (sym (le-leb _ _ enough) ∙ not-true _ few))) (λ done. done))
     (pendingPrepares (w .history)) e
 
-given-true : (place : ℕ) (a : OrderAnswer) → givenBy place a ≡ true → GivenBy place a
+given-true : (place : ℕ) (a : OrderAnswer) → givenUpTo place a ≡ true → GivenUpTo place a
 given-true place (Ordered at pid epoch verdict position coordinator) e = leb-true at place e
-given-true place NoOrder e = absurd (true≢false (sym e))
+given-true place NoOrder e = not-both refl e
 
-orders-true : (phase : Phase) (w : World) → ordersGo phase w ≡ true → OrdersGo phase w
+orders-true : (phase : Phase) (w : World) → ordersGiven phase w ≡ true → OrdersGiven phase w
 orders-true (up s) w e =
-    each-true _ (λ (p : Logged). givenBy (placeOf (s .table) (p .content .name)) (order s (catalogueOf w .all)))
+    each-true _ (λ (p : Logged). givenUpTo (placeOf (s .table) (p .content .name)) (order s (catalogueOf w .all)))
     (λ p t set more. rw (order-same s (catalogueOf w .all) set more within) (given-true (placeOf (s .table) (p .content .name)) (order s (catalogueOf w .all)) t))
     (pendingPrepares (w .history)) (search (and-left, and-right))
   where
@@ -263,8 +263,8 @@ holds-true w e =
       for-flushed-prepare = for-flushed-true w (search (and-left, and-right) depth 12);
       one-marker = one-marker-true w (search (and-left, and-right) depth 12);
       under-its-verdict = under-true w (search (and-left, and-right) depth 12);
-      orders-go = orders-true (w .phase) w (search (and-left, and-right) depth 12);
-      carrying-goes = carrying-true (w .carrying) w (search (and-left, and-right) depth 12);
+      orders-given = orders-true (w .phase) w (search (and-left, and-right) depth 12);
+      carrying-accepted = carrying-true (w .carrying) w (search (and-left, and-right) depth 12);
       restarts = restarts-true (w .phase) w (search (and-left, and-right) depth 12);
     }
 
@@ -281,7 +281,7 @@ copied-true (Copied count next) n m e = go
 
     go : Copied count next ≡ Copied n m
     go = λ i. Copied (counts i) (nexts i)
-copied-true (ReadRefused number) n m e = absurd (true≢false (sym e))
+copied-true (ReadRefused number) n m e = not-both refl e
 
 pub reads-true : (w : World) (x : ℕ) (l : Leader) (from : ℕ) (out : List ℕ) → readsFrom w x l from out ≡ true → ReadsFrom w x l from out
 reads-true w x l from out e =

@@ -33,7 +33,7 @@ use Rattle.answers.specs.declared.ReadAnswer.{ReadAnswer}
 use Rattle.answers.specs.declared.ReadAnswer.the-variants.{Copied, Refused as ReadRefused}
 use Rattle.partition.specs.Partition.{stableEnd}
 use Rattle.partition.specs.Read.{standsUnder, readAnswer, readOut}
-use Rattle.runs.specs.History.{Order, Produced, History, ordersIn, producedIn, markersIn, collect, Past, pasts, Logged, recordsOf, contents, framesOf, endOf, flushedOf, isFlushed, recordNumbered, latestOf, nextOf, listed, isCompleted, completedPrepares, pendingPrepares, transaction, carriedFor, markersLike, wordsOf}
+use Rattle.runs.specs.History.{Order, Produced, History, ordersIn, producedIn, markersIn, collect, WithBefore, collectWithBefore, Logged, recordsOf, contents, framesOf, endOf, flushedOf, isFlushed, recordNumbered, latestOf, nextOf, listed, isCompleted, completedPrepares, pendingPrepares, transaction, carriedFor, markersFor, wordsOf}
 use Rattle.runs.specs.World.{Leader, Phase, up, down, Carrying, nothing, toDeliver, toAcknowledge, World, catalogueOf, leaderAt}
 use Rattle.runs.specs.InEveryRun.{committedBetween}
 
@@ -79,7 +79,7 @@ logAgrees w =
     && ends (catalogueOf w) records
     && sameLengths (w .phase) (w .history)
 
-abbrev pub entitled : Past Produced → Bool
+abbrev pub entitled : WithBefore Produced → Bool
 entitled p =
     found
     (λ (x : Logged).
@@ -93,12 +93,12 @@ entitled p =
 abbrev pub wordsAgree : World → Bool
 wordsAgree w =
     allAt (λ x (l : Leader). same (take (entryWords * l .partition .end) (l .words)) (wordsOf x (w .history))) 0 (w .leaders)
-    && all entitled (pasts producedIn (w .history))
-    && all (λ (p : Past Produced). eqb (entryWords * p .what .offset) (length (wordsOf (p .what .position) (p .before)))) (pasts producedIn (w .history))
+    && all entitled (collectWithBefore producedIn (w .history))
+    && all (λ (p : WithBefore Produced). eqb (entryWords * p .what .offset) (length (wordsOf (p .what .position) (p .before)))) (collectWithBefore producedIn (w .history))
 
 -- ---- orders, markers and entries
 
-abbrev pub isFor : Past Order → Bool
+abbrev pub isFor : WithBefore Order → Bool
 isFor p =
     found
     (λ (x : Logged).
@@ -112,10 +112,10 @@ isFor p =
     (recordNumbered (p .what .for) (p .before))
 
 abbrev pub forFlushedPrepare : World → Bool
-forFlushedPrepare w = all isFor (pasts ordersIn (w .history))
+forFlushedPrepare w = all isFor (collectWithBefore ordersIn (w .history))
 
 abbrev pub oneMarker : World → Bool
-oneMarker w = all (λ (o : Order). eqb (markersLike o (w .history)) 1) (collect markersIn (w .history))
+oneMarker w = all (λ (o : Order). eqb (markersFor o (w .history)) 1) (collect markersIn (w .history))
 
 abbrev pub standsUnderVerdict : World → Status → Produced → Bool
 standsUnderVerdict w status e =
@@ -140,10 +140,10 @@ markerDone w o =
     let l = leaderAt w (o .position) in
     isDone (marker (l .partition) (length (l .words)) (o .place) (o .pid) (o .epoch) (o .verdict) (o .coordinator) .answer)
 
-abbrev pub carryingGoes : Carrying → World → Bool
-carryingGoes nothing w = true
-carryingGoes (toDeliver i o) w = markerDone w o
-carryingGoes (toAcknowledge i o) w = ackDone (w .phase) w o
+abbrev pub carryingAccepted : Carrying → World → Bool
+carryingAccepted nothing w = true
+carryingAccepted (toDeliver i o) w = markerDone w o
+carryingAccepted (toAcknowledge i o) w = ackDone (w .phase) w o
 
 -- of the prepares that were flushed and not completed at one moment, each one with enough carried orders is completed at a later one
 abbrev pub completesInTime : World → World → Bool
@@ -151,16 +151,16 @@ completesInTime w v =
     all (λ (p : Logged). not (leb (carriedFor p (w .history) + listed p) (carriedFor p (v .history))) || isCompleted (v .history) p)
     (pendingPrepares (w .history))
 
-abbrev pub givenBy : ℕ → OrderAnswer → Bool
-givenBy place (Ordered at pid epoch verdict position coordinator) = leb at place
-givenBy place NoOrder = false
+abbrev pub givenUpTo : ℕ → OrderAnswer → Bool
+givenUpTo place (Ordered at pid epoch verdict position coordinator) = leb at place
+givenUpTo place NoOrder = false
 
 -- every outstanding position is in the catalogue: so an Order answers the same whatever else is up than all partitions
-abbrev pub ordersGo : Phase → World → Bool
-ordersGo (up s) w =
+abbrev pub ordersGiven : Phase → World → Bool
+ordersGiven (up s) w =
     all (λ (row : Row). subset (outstanding row) (catalogueOf w .all)) (s .table .rows)
-    && all (λ (p : Logged). givenBy (placeOf (s .table) (p .content .name)) (order s (catalogueOf w .all))) (pendingPrepares (w .history))
-ordersGo (down n epoch) w = true
+    && all (λ (p : Logged). givenUpTo (placeOf (s .table) (p .content .name)) (order s (catalogueOf w .all))) (pendingPrepares (w .history))
+ordersGiven (down n epoch) w = true
 
 -- ---- restart
 
@@ -177,8 +177,8 @@ holdsAt w =
     && forFlushedPrepare w
     && oneMarker w
     && underItsVerdict w
-    && ordersGo (w .phase) w
-    && carryingGoes (w .carrying) w
+    && ordersGiven (w .phase) w
+    && carryingAccepted (w .carrying) w
     && restarts (w .phase) w
 
 -- ---- Read

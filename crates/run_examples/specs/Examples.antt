@@ -4,7 +4,7 @@ use mathlib.Core.Bool.{Bool, _&&_}
 use mathlib.Core.List.{List, [], _∷_, _++_}
 use lib.Dec.{eqb}
 use lib.IntN.{pos}
-use lib.ListN.{length, take, replicate}
+use lib.ListN.{length, take}
 use Rattle.numbers.specs.Bytes.{same}
 use Rattle.record.specs.Record.{wellFormed}
 use Rattle.search.specs.Search.{all, sumOf}
@@ -17,14 +17,14 @@ use Rattle.runs.specs.History.{Logged, collect, carriedIn, markersIn, flushedPr
 use Rattle.runs.specs.World.{World, start, leaderAt, own, Item, callOrder, deliver, cut, run}
 use Rattle.runs.specs.Demand2.{Writer, writes, isTornRest}
 use Rattle.run_examples.specs.Checks.{kept, completesInTime, forFlushedPrepare, underItsVerdict, holdsAt, readsFrom}
-use Rattle.run_examples.specs.Runs.{scanText, opened, both, carry, reopening, prepared, straight, afterCut, atFork, orderedEarly, flushedShort, flushedPast, restarted, restartedCarried, completeLost, completeLostCarried, widenedEarly, tickedLate, carriedLate, carriedTwice, acknowledgedOnly, openedLater, lentOthers, writerItems, leftRecords, leftRest}
+use Rattle.run_examples.specs.Runs.{scanText, buffer, lengthLeft, opened, both, carry, reopening, prepared, straight, afterCut, afterShared, orderedEarly, flushedShort, flushedPast, restarted, restartedCarried, completeLost, completeLostCarried, widenedEarly, tickedLate, carriedLate, carriedTwice, acknowledgedOnly, openedLater, lentOthers, writerItems, leftRecords, leftRest}
 
 pub data Example : Type 0 where
   -- one of two acknowledgements is there
   halfAcknowledged : Example
   -- an order is given, and its partition answered done
   whileCarrying : Example
-  -- the straight run from the fork
+  -- the straight run from the end of the shared list
   straightRun : Example
   -- "Giving an order once the prepare is appended, not flushed."
   orderBeforeFlush orderBeforeWholeFlush : Example
@@ -38,7 +38,7 @@ pub data Example : Type 0 where
   timeoutPassed : Example
   -- between a cut inside a frame and the opening, which is accepted
   cutInsideFrame : Example
-  -- the cut run from the fork
+  -- the cut run from there
   cutRun : Example
   -- a run that starts from a log with records
   openedWithRecords : Example
@@ -73,26 +73,26 @@ abbrev pub hasFigures : World → ℕ → ℕ → ℕ → ℕ → Bool
 hasFigures w completed entries carried markers = same (figures w) (completed ∷ entries ∷ carried ∷ markers ∷ [])
 
 abbrev pub cutRunItems : List Item
-cutRunItems = cut 220 ∷ reopening ∷ afterCut
+cutRunItems = cut lengthLeft ∷ reopening ∷ afterCut
 
 abbrev pub cutRunEnd : World
-cutRunEnd = run cutRunItems atFork
+cutRunEnd = run cutRunItems afterShared
 
 abbrev pub laterEnd : World
 laterEnd = run (carry 4 ++ carry 6) (start openedLater)
 
--- what a writer leaves that opens the empty log in a buffer of 2,800 bytes
+-- what a writer leaves that opens the empty log in that buffer
 abbrev pub writerOpening : Opening
-writerOpening = opening scanText (replicate 2800 0) 0 (pos 1) (pos 1000) (pos 1999)
+writerOpening = opening scanText buffer 0 (pos 1) (pos 1000) (pos 1999)
 
 abbrev pub writerEnd : Writer
-writerEnd = writes scanText writerItems (record { state = writerOpening .state; log = replicate 2800 0 })
+writerEnd = writes scanText writerItems (record { state = writerOpening .state; log = buffer })
 
 abbrev pub holds : Example → Bool
 holds halfAcknowledged = let w = run (carry 9) (after prepared) in promised (after prepared) w
 holds whileCarrying =
     holdsAt (run (callOrder both ∷ []) (after prepared)) && holdsAt (run (callOrder both ∷ deliver own 9 ∷ []) (after prepared))
-holds straightRun = promised atFork (run straight atFork)
+holds straightRun = promised afterShared (run straight afterShared)
 holds orderBeforeFlush = let w = after orderedEarly in forFlushedPrepare w && underItsVerdict w
 holds orderBeforeWholeFlush = forFlushedPrepare (after flushedShort)
 holds flushPastEnd = holdsAt (after flushedPast)
@@ -101,8 +101,8 @@ holds ordersAfterRestart = let w = after completeLost in eqb (length (pendingPre
 holds completesAfterRestart = promised (after restarted) (after restartedCarried)
 holds completesAgain = promised (after completeLost) (after completeLostCarried)
 holds timeoutPassed = promised (after restarted) (after tickedLate)
-holds cutInsideFrame = promised atFork (run (cut 220 ∷ []) atFork)
-holds cutRun = promised atFork cutRunEnd
+holds cutInsideFrame = promised afterShared (run (cut lengthLeft ∷ []) afterShared)
+holds cutRun = promised afterShared cutRunEnd
 holds openedWithRecords = promised (start openedLater) laterEnd
 holds slicesThatMeet8 = promised (after prepared) (after lentOthers)
 holds couldHaveWritten =
@@ -110,14 +110,14 @@ holds couldHaveWritten =
     all (wellFormed (parse scanText .catalogue)) leftRecords
     && eqb (openReply (writerOpening .answer) .number) 0
     && same (take (logEnd (writerEnd .state)) (writerEnd .log)) frames
-    && same (take 220 (atFork .log)) (frames ++ leftRest)
+    && same (take lengthLeft (afterShared .log)) (frames ++ leftRest)
     && isTornRest leftRest
 holds readsCommitted =
-    let w = run straight atFork in
+    let w = run straight afterShared in
     let l = leaderAt w 0 in
     readsFrom w 0 l 0 (0 ∷ 0 ∷ []) && readsFrom w 0 l 0 [] && readsFrom w 0 l 1 (0 ∷ 0 ∷ [])
 holds runsAsDescribed =
-    hasFigures (run straight atFork) 1 2 2 2
+    hasFigures (run straight afterShared) 1 2 2 2
     && hasFigures cutRunEnd 1 2 3 2
     && hasFigures (after orderedEarly) 1 2 2 2
     && hasFigures (after flushedShort) 0 0 0 0

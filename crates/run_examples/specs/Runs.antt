@@ -18,12 +18,16 @@ scanText = 115 ∷ 99 ∷ 97 ∷ 110 ∷ 9 ∷ 50 ∷ 10 ∷ []
 abbrev pub lab3 : List ℕ
 lab3 = 108 ∷ 97 ∷ 98 ∷ 51 ∷ []
 
--- the empty log in a buffer of 2,800 bytes, and room for four entries at each partition
+-- a log buffer
+abbrev pub buffer : List ℕ
+buffer = replicate 2800 0
+
+-- the empty log in it, and room for four entries at each partition
 abbrev pub opened : FirstOpening
 opened =
     record {
       text = scanText;
-      log = replicate 2800 0;
+      log = buffer;
       length = 0;
       epoch = pos 1;
       first = pos 1000;
@@ -79,13 +83,17 @@ shared = prepared ++ carry 9 ++ (call own (callInit lab3 (pos 60000) (pos 130)) 
 abbrev pub straight : List Item
 straight = carry 13
 
+-- the length that the cut leaves
+abbrev pub lengthLeft : ℕ
+lengthLeft = 220
+
 -- the cut run: 25 bytes of the frame of `lab3` are left, and both orders are carried anew
 abbrev pub afterCut : List Item
 afterCut = carry 15 ++ carry 17
 
 -- the end of the shared list
-abbrev pub atFork : World
-atFork = run shared (start opened)
+abbrev pub afterShared : World
+afterShared = run shared (start opened)
 
 -- ---- the same log by a writer without partitions
 
@@ -99,12 +107,12 @@ writerItems =
     logCall (callEnd rig7 (pos 1000) (pos 0) 0 (pos 120)) ∷
     []
 
--- the records that a cut at 220 leaves whole, and the 25 bytes behind them
+-- the records that that cut leaves whole, and the 25 bytes behind them
 abbrev pub leftRecords : List Record
-leftRecords = contents (recordsOf (run (cut 220 ∷ []) atFork .history))
+leftRecords = contents (recordsOf (run (cut lengthLeft ∷ []) afterShared .history))
 
 abbrev pub leftRest : List ℕ
-leftRest = drop 195 (take 220 (atFork .log))
+leftRest = drop 195 (take lengthLeft (afterShared .log))
 
 -- ---- runs in which a reading that tempts would do harm
 
@@ -162,7 +170,7 @@ acknowledgedOnly = prepared ++ (callOrder both ∷ acknowledge own 9 ∷ [])
 
 -- a first opening of what that cut left of the log: three records, so that the next event is 4
 abbrev pub openedLater : FirstOpening
-openedLater = record { text = scanText; log = atFork .log; length = 220; epoch = pos 2; first = pos 1000; last = pos 1999; words = opened .words }
+openedLater = record { text = scanText; log = afterShared .log; length = lengthLeft; epoch = pos 2; first = pos 1000; last = pos 1999; words = opened .words }
 
 -- calls that are lent a slice of no bytes or words, an entry for a position outside the catalogue, and orders that are lost on their way
 abbrev pub lentOthers : List Item

@@ -2,12 +2,11 @@
 -- two wrong servers that the clause rules out.
 use Prim.Native.Nat.{ℕ, _+_, _*_, _≤_}
 use mathlib.Core.Path.{_≡_}
-use mathlib.Core.Bool.{true, false, _||_}
+use mathlib.Core.Bool.{true, false}
 use mathlib.Core.List.{List, [], _∷_}
 use mathlib.Core.Option.{none, some}
-use lib.IntN.{ℤ, pos}
+use lib.IntN.{ℤ}
 use lib.ListN.{length, take}
-use lib.Signed.{ltZ}
 use Rattle.bits.specs.Bits.{member, subset}
 use Rattle.catalogue.specs.declared.Catalogue.{Catalogue}
 use Rattle.record.specs.Frame.{frame}
@@ -28,7 +27,8 @@ use Rattle.coordinator.specs.Ack.{ack}
 use Rattle.partition.specs.Limits.{entryWords}
 use Rattle.partition.specs.Marker.{marker}
 use Rattle.partition.specs.Read.{standsUnder}
-use Rattle.runs.specs.History.{Order, Produced, History, ordersIn, producedIn, markersIn, collect, Logged, recordsOf, contents, framesOf, endOf, flushedOf, isFlushed, recordNumbered, latestOf, nextOf, flushedPrepares, listed, isCompleted, completedPrepares, pendingPrepares, transaction, carriedFor, markersLike, wordsOf, Past, pasts}
+use Rattle.runs.specs.LogCalls.{outOfOrder}
+use Rattle.runs.specs.History.{Order, Produced, History, ordersIn, producedIn, markersIn, collect, Logged, recordsOf, contents, framesOf, endOf, flushedOf, isFlushed, recordNumbered, latestOf, nextOf, flushedPrepares, listed, isCompleted, completedPrepares, pendingPrepares, transaction, carriedFor, markersFor, wordsOf, WithBefore, collectWithBefore}
 use Rattle.runs.specs.World.{Leader, Phase, up, down, Carrying, nothing, toDeliver, toAcknowledge, World, catalogueOf, leaderAt, FirstOpening, start, Accepted, Lent, own, another, Item, call, callFlush, callOrder, callProduce, callRead, deliver, acknowledge, cut, reopen, run}
 
 -- ---- kept
@@ -76,8 +76,8 @@ pub record Entitled (e : Produced) (h : History) (x : Logged) : Type 0 where
 -- Not met by a Marker that writes COMMIT for an abort, nor by a Produce that is let in on a widened set that isn't flushed.
 pub record WordsAgree (w : World) : Type 0 where
   pub words : EachAt (λ x (l : Leader). take (entryWords * l .partition .end) (l .words) ≡ wordsOf x (w .history)) 0 (w .leaders)
-  pub entitled : Each (λ (p : Past Produced). Found (Entitled (p .what) (p .before)) (latestOf (p .what .name) (p .before))) (pasts producedIn (w .history))
-  pub offsets : Each (λ (p : Past Produced). entryWords * p .what .offset ≡ length (wordsOf (p .what .position) (p .before))) (pasts producedIn (w .history))
+  pub entitled : Each (λ (p : WithBefore Produced). Found (Entitled (p .what) (p .before)) (latestOf (p .what .name) (p .before))) (collectWithBefore producedIn (w .history))
+  pub offsets : Each (λ (p : WithBefore Produced). entryWords * p .what .offset ≡ length (wordsOf (p .what .position) (p .before))) (collectWithBefore producedIn (w .history))
 
 -- ---- for a flushed prepare
 
@@ -95,14 +95,14 @@ pub record IsFor (o : Order) (h : History) (p : Logged) : Type 0 where
 -- Not met by an Order that is given once the prepare is appended, nor by one that offers a partition outside the transaction.
 abbrev pub ForFlushedPrepare : World → Type 0
 ForFlushedPrepare w =
-    Each (λ (p : Past Order). Found (IsFor (p .what) (p .before)) (recordNumbered (p .what .for) (p .before))) (pasts ordersIn (w .history))
+    Each (λ (p : WithBefore Order). Found (IsFor (p .what) (p .before)) (recordNumbered (p .what .for) (p .before))) (collectWithBefore ordersIn (w .history))
 
 -- ---- one
 
 -- 00: "no partition holds two for one prepare"
 -- Not met by a Marker that leaves the transaction open and so writes again, nor by one that appends always, as 000 has it.
 abbrev pub OneMarker : World → Type 0
-OneMarker w = Each (λ (o : Order). markersLike o (w .history) ≡ 1) (collect markersIn (w .history))
+OneMarker w = Each (λ (o : Order). markersFor o (w .history) ≡ 1) (collect markersIn (w .history))
 
 -- ---- under its verdict
 
@@ -119,18 +119,18 @@ UnderItsVerdict w =
 -- ---- progress
 
 -- an order of at most this place
-abbrev pub GivenBy : ℕ → OrderAnswer → Type 0
-GivenBy place (Ordered at pid epoch verdict position coordinator) = at ≤ place
-GivenBy place NoOrder = ⊥
+abbrev pub GivenUpTo : ℕ → OrderAnswer → Type 0
+GivenUpTo place (Ordered at pid epoch verdict position coordinator) = at ≤ place
+GivenUpTo place NoOrder = ⊥
 
 -- While a flushed prepare is not completed, an Order with all partitions up answers an order, of the prepare's place or a lower one.
 -- Not met by an Order that says none over a flushed prepare, nor by a server that takes a recovered prepare for acknowledged: nothing would be
 -- outstanding, and it would never complete.
-abbrev pub OrdersGo : Phase → World → Type 0
-OrdersGo (up s) w =
-    Each (λ (p : Logged). (set : ℕ) → subset (catalogueOf w .all) set ≡ true → GivenBy (placeOf (s .table) (p .content .name)) (order s set))
+abbrev pub OrdersGiven : Phase → World → Type 0
+OrdersGiven (up s) w =
+    Each (λ (p : Logged). (set : ℕ) → subset (catalogueOf w .all) set ≡ true → GivenUpTo (placeOf (s .table) (p .content .name)) (order s set))
     (pendingPrepares (w .history))
-OrdersGo (down n epoch) w = Unit {0}
+OrdersGiven (down n epoch) w = Unit {0}
 
 -- No Marker and no Ack made in carrying is refused.
 -- Not met by a partition whose coordinator epoch runs ahead of its coordinator's, nor by an Ack that refuses all.
@@ -143,10 +143,10 @@ abbrev pub AckDone : Phase → World → Order → Type 0
 AckDone (up s) w o = ack s (length (w .log)) (o .place) (o .pid) (o .epoch) (o .position) .answer ≡ Done
 AckDone (down n epoch) w o = ⊥
 
-abbrev pub CarryingGoes : Carrying → World → Type 0
-CarryingGoes nothing w = Unit {0}
-CarryingGoes (toDeliver i o) w = MarkerDone w o
-CarryingGoes (toAcknowledge i o) w = AckDone (w .phase) w o
+abbrev pub CarryingAccepted : Carrying → World → Type 0
+CarryingAccepted nothing w = Unit {0}
+CarryingAccepted (toDeliver i o) w = MarkerDone w o
+CarryingAccepted (toAcknowledge i o) w = AckDone (w .phase) w o
 
 abbrev pub IsOwn : Lent → Type 0
 IsOwn own = Unit {0}
@@ -180,7 +180,7 @@ CompletesInTime w items =
 abbrev pub Restarts : Phase → World → Type 0
 Restarts (up s) w = Unit {0}
 Restarts (down n before) w =
-    (epoch first last : ℤ) → (ltZ epoch (pos 0) || ltZ first (pos 0) || ltZ last first) ≡ false
+    (epoch first last : ℤ) → outOfOrder epoch first last ≡ false
     → openReply (opening (w .text) (w .log) n epoch first last .answer) .number ≡ 0
 
 -- ---- the statement
@@ -192,8 +192,8 @@ pub record HoldsAt (w : World) : Type 0 where
   pub for-flushed-prepare : ForFlushedPrepare w
   pub one-marker : OneMarker w
   pub under-its-verdict : UnderItsVerdict w
-  pub orders-go : OrdersGo (w .phase) w
-  pub carrying-goes : CarryingGoes (w .carrying) w
+  pub orders-given : OrdersGiven (w .phase) w
+  pub carrying-accepted : CarryingAccepted (w .carrying) w
   pub restarts : Restarts (w .phase) w
 
 -- what is promised at the end of the shared list to every list that goes on from there; each beginning of a list is a list, so it is promised at every moment

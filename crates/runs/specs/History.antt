@@ -133,14 +133,14 @@ collect f [] = []
 collect f (x ∷ h) = f x ++ collect f h
 
 -- what an event says, with the events before it
-pub record Past (A : Type 0) : Type 0 where
+pub record WithBefore (A : Type 0) : Type 0 where
   pub what : A
   pub before : History
 
 -- the same for all events
-unfoldable pub pasts : {A : Type 0} → (Event → List A) → History → List (Past A)
-pasts f [] = []
-pasts {A = A} f (x ∷ h) = map (λ (a : A). record { what = a; before = h }) (f x) ++ pasts f h
+unfoldable pub collectWithBefore : {A : Type 0} → (Event → List A) → History → List (WithBefore A)
+collectWithBefore f [] = []
+collectWithBefore {A = A} f (x ∷ h) = map (λ (a : A). record { what = a; before = h }) (f x) ++ collectWithBefore f h
 
 -- ---- records
 
@@ -259,8 +259,8 @@ abbrev pub carriedFor : Logged → History → ℕ
 carriedFor p h = countWhere (λ (o : Order). eqb (o .for) (p .number)) (collect carriedIn h)
 
 -- how many markers were written for the order's record at the order's partition
-abbrev pub markersLike : Order → History → ℕ
-markersLike m h = countWhere (λ (o : Order). eqb (o .position) (m .position) && eqb (o .for) (m .for)) (collect markersIn h)
+abbrev pub markersFor : Order → History → ℕ
+markersFor m h = countWhere (λ (o : Order). eqb (o .position) (m .position) && eqb (o .for) (m .for)) (collect markersIn h)
 
 -- the words of all entries at a position, in the order in which they were written
 unfoldable pub wordsOf : ℕ → History → List ℕ

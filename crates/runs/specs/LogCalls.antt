@@ -1,9 +1,10 @@
 -- The calls that producers and the clock make of the coordinator, as one type, and which arguments a call can have.
 use Prim.Native.Nat.{ℕ, _^_}
-use mathlib.Core.Bool.{Bool, _&&_}
+use mathlib.Core.Bool.{Bool, _&&_, _||_}
 use mathlib.Core.List.{List}
 use lib.Dec.{ltb}
-use lib.IntN.{ℤ}
+use lib.IntN.{ℤ, pos}
+use lib.Signed.{ltZ}
 use mir.Syntax.{w16, w32, w64}
 use Rattle.numbers.specs.Border.{fits}
 use Rattle.coordinator.specs.Coordinator.{Action}
@@ -44,3 +45,7 @@ callTyped (callTick time) = fits w64 time
 -- coordinator epoch, first and last pid
 abbrev pub openingTyped : ℤ → ℤ → ℤ → Bool
 openingTyped epoch first last = fits w32 epoch && fits w64 first && fits w64 last
+
+-- "a negative coordinator epoch or first pid, last below first"
+abbrev pub outOfOrder : ℤ → ℤ → ℤ → Bool
+outOfOrder epoch first last = ltZ epoch (pos 0) || ltZ first (pos 0) || ltZ last first
