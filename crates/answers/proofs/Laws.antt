@@ -1,10 +1,10 @@
 -- Laws of tests in order and of what is decided by them.
 use Prim.Native.Nat.{ℕ}
-use mathlib.Core.Path.{_≡_, refl, sym, _∙_}
-use mathlib.Core.Bool.{Bool, true, false, cond, _||_}
-use mathlib.Core.List.{List, [], _∷_}
+use mathlib.Core.Path.{_≡_, refl, sym, ap, _∙_}
+use mathlib.Core.Bool.{Bool, true, false, cond, _||_, true≢false}
+use mathlib.Core.List.{List, [], _∷_, _++_}
 use lib.Dec.{eqb}
-use borrow.Author.Tests.{eqb-true, eqb-false, eq-eqb}
+use borrow.Author.Tests.{eqb-true, eqb-false, eq-eqb, ne-eqb}
 use Rattle.answers.specs.Refusals.{Test, refuse, firstRefusal, numbersOf, among, Decision, unless}
 
 -- ---- the first test that applies
@@ -44,6 +44,14 @@ unfolding firstRefusal
 none-is [] h = refl
 none-is (refuse number applies ∷ tests) (h, hs) = rw h (none-is tests hs)
 
+-- tests behind others count where none of the others applies; that the first refusal is 0 says so, where none of the others has the number 0
+pub first-append : (tests behind : List Test) → among 0 (numbersOf tests) ≡ false
+    → firstRefusal (tests ++ behind) ≡ cond (eqb (firstRefusal tests) 0) (firstRefusal behind) (firstRefusal tests)
+unfolding firstRefusal numbersOf among
+first-append [] behind h = refl
+first-append (refuse number true ∷ tests) behind h = rw (ne-eqb number 0 (λ z. eqb-false 0 number (or-false-left _ _ h) (sym z)))
+first-append (refuse number false ∷ tests) behind h = first-append tests behind (or-false-right (eqb 0 number) _ h)
+
 -- ---- which numbers there can be
 
 or-right : (a b : Bool) → b ≡ true → (a || b) ≡ true
@@ -60,6 +68,10 @@ unfolding firstRefusal numbersOf among
 first-among [] = refl
 first-among (refuse number true ∷ tests) = or-right (eqb number 0) _ (rw (eq-eqb number number refl))
 first-among (refuse number false ∷ tests) = skip-one (eqb (firstRefusal tests) 0) (eqb (firstRefusal tests) number) _ (first-among tests)
+
+-- a number other than 0 that no test has is not the first refusal
+pub first-other : (k : ℕ) (tests : List Test) → among k (0 ∷ numbersOf tests) ≡ false → firstRefusal tests ≡ k → ⊥
+first-other k tests h e = true≢false (sym (first-among tests) ∙ ap (λ (n : ℕ). among n (0 ∷ numbersOf tests)) e ∙ h)
 
 -- ---- what is decided
 

@@ -56,6 +56,10 @@ name-short c t = omega (arith, until-length (nameField c t), length-take 16 (dro
 pub name-byte : (c : Catalogue) (t i : ℕ) → i < length (topicName c t) → getD (topicName c t) i 0 ≡ getD (c .names) (topicNameMax * t + i) 0
 name-byte c t i h = until-byte (nameField c t) i h ∙ field-byte c t i (omega (arith, name-short c t))
 
+-- a text that is not refused gives its catalogue
+pub not-refused : (text : List ℕ) → parse text .refusal ≡ 0 → parse text ≡ accepted (parse text .catalogue)
+not-refused text e = ap (λ (k : ℕ). record { refusal = k; catalogue = parse text .catalogue }) e
+
 module _ (text : List ℕ) (c : Catalogue) (e : parse text ≡ accepted c) where
   held : c ≡ catalogueOf (accepted-is text c e .lines)
   held = let r = accepted-is text c e in r .held ∙ with-lines (r .lines) (r .good) (r .few)

@@ -115,7 +115,7 @@ fn line_at(text: &[u8], at: usize) -> Line
 }
 
 // The catalogue with no topic.
-fn blank() -> Catalogue
+pub fn blank() -> Catalogue
     ensures { λ r. ⌜ r ≡ blank ⌝ }
 {
     Catalogue {

@@ -85,6 +85,21 @@ module _ {A : Type 0} (p : A → Bool) where
   pub first-nowhere : (l : List A) (d : A) → (length l ≤ firstWhere p l) ↔ ((i : ℕ) → i < length l → p (getD l i d) ≡ false)
   first-nowhere l d = (λ h i k. first-before l d i (omega arith), λ n. omega (arith, first-none l d n))
 
+  -- an element that passes, put no later than the first one, is the first
+  pub first-set-same : (l : List A) (i : ℕ) (x : A) → i < length l → i ≤ firstWhere p l → p x ≡ true → firstWhere p (set l i x) ≡ i
+  first-set-same [] i x h k e = absurd (omega arith)
+  first-set-same (y ∷ l) zero x h k e = hit x l e
+  first-set-same (y ∷ l) (suc i) x h k e =
+      either (p y) (λ f. absurd (omega (arith, hit y l f)))
+      (λ f. miss y (set l i x) f ∙ ap suc (first-set-same l i x (omega arith) (omega (arith, miss y l f)) e))
+
+  -- an element that fails, put in place of one that fails, leaves the first one where it is
+  pub first-set-other : (l : List A) (d : A) (i : ℕ) (x : A) → p (getD l i d) ≡ false → p x ≡ false → firstWhere p (set l i x) ≡ firstWhere p l
+  unfolding firstWhere
+  first-set-other [] d i x f e = refl
+  first-set-other (y ∷ l) d zero x f e = rw (f, e)
+  first-set-other (y ∷ l) d (suc i) x f e = rw (first-set-other l d i x f e)
+
   -- where fewer fail than there are, one passes
   pub first-free : (l : List A) → countWhere (λ (x : A). not (p x)) l < length l → firstWhere p l < length l
   unfolding countWhere
