@@ -15,10 +15,12 @@ use Rattle.succession.specs.Moves.{mayFollowStatus}
 use Rattle.succession.specs.Succession.{first, initializes, begins, widens, preparesCommit, preparesAbort, completes, keeps, follows}
 use Rattle.search.specs.Search.{firstWhere, countWhere, sumOf}
 use Rattle.answers.specs.Refusals.{firstRefusal}
-use Rattle.table.specs.Scan.{succeeds, mayCome, scan}
+use Rattle.table.specs.Next.{succeeds, mayCome}
+use Rattle.log_reader.specs.Read.{readTests}
+use Rattle.log_reader.specs.Scan.{scan}
 use Rattle.table.specs.Table.{placeOf, lowestFree, idCount, reserved, apply}
 use Rattle.coordinator.specs.Coordinator.{admits, notHeld, logFull, appended, acknowledged}
-use Rattle.coordinator.specs.Open.{readTests, takeOverTests, openTests, opening}
+use Rattle.coordinator.specs.Open.{takeOverTests, openTests, opening}
 use Rattle.coordinator.specs.Init.{initRow, initRowTests, initTests, initAccepted, init}
 use Rattle.coordinator.specs.Add.{allJoined, addRow, addRowTests, addTests, addAction, add}
 use Rattle.coordinator.specs.Tick.{overdue, overduePlace, tickTests, tickAccepted, tick}

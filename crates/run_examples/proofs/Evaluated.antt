@@ -14,10 +14,12 @@ use Rattle.succession.specs.Moves.{mayFollowStatus}
 use Rattle.succession.specs.Succession.{first, initializes, begins, widens, preparesCommit, preparesAbort, completes, keeps, follows}
 use Rattle.search.specs.Search.{firstWhere, countWhere, sumOf, find, findLast, filter, all, allAt}
 use Rattle.answers.specs.Refusals.{firstRefusal}
-use Rattle.table.specs.Scan.{succeeds, mayCome, scan}
+use Rattle.table.specs.Next.{succeeds, mayCome}
+use Rattle.log_reader.specs.Read.{readTests}
+use Rattle.log_reader.specs.Scan.{scan}
 use Rattle.table.specs.Table.{placeOf, lowestFree, idCount, reserved, apply}
 use Rattle.coordinator.specs.Coordinator.{admits, notHeld, logFull, appended, acknowledged}
-use Rattle.coordinator.specs.Open.{readTests, takeOverTests, openTests, opening}
+use Rattle.coordinator.specs.Open.{takeOverTests, openTests, opening}
 use Rattle.coordinator.specs.Init.{initRow, initRowTests, initTests, initAccepted, init}
 use Rattle.coordinator.specs.Add.{allJoined, addRow, addRowTests, addTests, addAction, add}
 use Rattle.coordinator.specs.Tick.{overdue, overduePlace, tickTests, tickAccepted, tick}
@@ -31,7 +33,8 @@ use Rattle.partition.specs.Read.{nextMarker, committed, copy, readTests as read
 use Rattle.partition.specs.Append.{lastSequence, nextSequence, produced, partitionFull}
 use Rattle.server.specs.Produce.{produceRowTests, produceTests, produce}
 use mathlib.Core.Bool.{true}
-use Rattle.runs.specs.History.{collect, collectWithBefore, endingBy, recordsOf, framesOf, flushedOf, wordsOf}
+use Rattle.log_reader.specs.Records.{framesOf}
+use Rattle.runs.specs.History.{collect, collectWithBefore, endingBy, recordsOf, flushedOf, wordsOf}
 use Rattle.runs.specs.World.{openLeaders, run, recordsRead}
 use Rattle.runs.specs.Demand2.{writes}
 use Rattle.run_examples.specs.Checks.{ends}

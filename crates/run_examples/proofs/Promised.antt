@@ -14,7 +14,8 @@ use Rattle.search.proofs.Each.{each-true}
 use Rattle.catalogue.specs.Catalogue.{parse}
 use Rattle.answers.specs.Answers.{openReply}
 use Rattle.coordinator.specs.Coordinator.{logEnd}
-use Rattle.runs.specs.History.{flushedPrepares, framesOf}
+use Rattle.log_reader.specs.Records.{framesOf}
+use Rattle.runs.specs.History.{flushedPrepares}
 use Rattle.runs.specs.World.{World, leaderAt, Item, cut, run}
 use Rattle.runs.specs.Demand2.{Openable}
 use Rattle.runs.specs.Demand3.{Kept, Promised}

@@ -39,7 +39,8 @@ use Rattle.partition.specs.Limits.{entryWords}
 use Rattle.answers.specs.declared.ReadAnswer.{ReadAnswer}
 use Rattle.answers.specs.declared.ReadAnswer.the-variants.{Copied, Refused as ReadRefused}
 use Rattle.partition.specs.Read.{standsUnder, readAnswer, readOut}
-use Rattle.runs.specs.History.{Order, Produced, History, ordersIn, producedIn, markersIn, collect, WithBefore, collectWithBefore, Logged, recordsOf, contents, framesOf, endOf, flushedOf, recordNumbered, latestOf, nextOf, listed, isCompleted, completedPrepares, pendingPrepares, transaction, carriedFor, markersFor, wordsOf}
+use Rattle.log_reader.specs.Records.{framesOf}
+use Rattle.runs.specs.History.{Order, Produced, History, ordersIn, producedIn, markersIn, collect, WithBefore, collectWithBefore, Logged, recordsOf, contents, endOf, flushedOf, recordNumbered, latestOf, nextOf, listed, isCompleted, completedPrepares, pendingPrepares, transaction, carriedFor, markersFor, wordsOf}
 use Rattle.runs.specs.World.{Leader, Phase, up, down, Carrying, nothing, toDeliver, toAcknowledge, World, catalogueOf, leaderAt, Item, run}
 use Rattle.runs.specs.Demand3.{Completes, Kept, Ends, SameLengths, LogAgrees, Entitled, WordsAgree, IsFor, ForFlushedPrepare, OneMarker, UnderItsVerdict, GivenUpTo, OrdersGiven, AckDone, CarryingAccepted, CompletesInTime, Restarts, HoldsAt}
 use Rattle.runs.specs.InEveryRun.{ReadsFrom}

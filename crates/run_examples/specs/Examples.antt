@@ -12,8 +12,9 @@ use Rattle.answers.specs.Answers.{openReply}
 use Rattle.catalogue.specs.Catalogue.{parse}
 use Rattle.coordinator.specs.Coordinator.{logEnd}
 use Rattle.coordinator.specs.Open.{opening}
-use Rattle.coordinator.specs.declared.Opening.{Opening}
-use Rattle.runs.specs.History.{Logged, collect, carriedIn, markersIn, flushedPrepares, pendingPrepares, completedPrepares, transaction, framesOf}
+use Rattle.coordinator.specs.declared.OpenedLog.{OpenedLog}
+use Rattle.log_reader.specs.Records.{framesOf}
+use Rattle.runs.specs.History.{Logged, collect, carriedIn, markersIn, flushedPrepares, pendingPrepares, completedPrepares, transaction}
 use Rattle.runs.specs.World.{World, start, leaderAt, own, Item, callOrder, deliver, cut, run}
 use Rattle.runs.specs.Demand2.{Writer, writes, isTornRest}
 use Rattle.run_examples.specs.Checks.{kept, completesInTime, forFlushedPrepare, underItsVerdict, holdsAt, readsFrom}
@@ -82,7 +83,7 @@ abbrev pub laterEnd : World
 laterEnd = run (carry 4 ++ carry 6) (start openedLater)
 
 -- what a writer leaves that opens the empty log in that buffer
-abbrev pub writerOpening : Opening
+abbrev pub writerOpening : OpenedLog
 writerOpening = opening scanText buffer 0 (pos 1) (pos 1000) (pos 1999)
 
 abbrev pub writerEnd : Writer

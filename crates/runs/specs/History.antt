@@ -10,8 +10,6 @@ use lib.ListN.{length, take, drop}
 use Rattle.numbers.specs.Border.{toNat}
 use Rattle.numbers.specs.Bytes.{same}
 use Rattle.bits.specs.Bits.{count}
-use Rattle.catalogue.specs.declared.Catalogue.{Catalogue}
-use Rattle.record.specs.Frame.{frame}
 use Rattle.record.specs.Record.{statusCode}
 use Rattle.record.specs.declared.Record.{Record}
 use Rattle.row.specs.Row.{isPrepare}
@@ -166,11 +164,6 @@ recordsOf (orderGiven o ∷ h) = recordsOf h
 recordsOf (markerWritten o ∷ h) = recordsOf h
 recordsOf (orderCarried o ∷ h) = recordsOf h
 recordsOf (entryWritten e ∷ h) = recordsOf h
-
--- the frames of records, of which the newest comes first, as they stand in a log
-unfoldable pub framesOf : Catalogue → List Record → List ℕ
-framesOf c [] = []
-framesOf c (r ∷ records) = framesOf c records ++ frame c r
 
 abbrev pub contents : List Logged → List Record
 contents records = map (λ (x : Logged). x .content) records

@@ -19,7 +19,7 @@ use Rattle.answers.specs.declared.TickAnswer.{TickAnswer}
 use Rattle.answers.specs.declared.TickAnswer.the-variants.{Refused as TickRefused}
 use Rattle.answers.specs.declared.ProduceAnswer.{ProduceAnswer}
 use Rattle.answers.specs.declared.ProduceAnswer.the-variants.{Refused as ProduceRefused}
-use Rattle.answers.proofs.Laws.{first-passes, first-among, unless-number, unless-does}
+use Rattle.answers.proofs.Laws.{first-passes, first-other, unless-number, unless-does}
 use Rattle.coordinator.specs.Coordinator.{admits, Action, keep, after}
 use Rattle.coordinator.specs.Open.{opening}
 use Rattle.coordinator.specs.declared.Coordinator.{Coordinator}
@@ -167,8 +167,7 @@ Not8 (refuse number applies ∷ rest) = (applies ≡ false) × (among 8 (0 ∷ n
 not-8 : (tests : List Test) → Not8 tests → firstRefusal tests ≡ 8 → ⊥
 not-8 [] m e = unfold firstRefusal in omega arith
 not-8 (refuse number applies ∷ rest) (p, m) e =
-    let k : firstRefusal rest ≡ 8 = sym (first-passes number applies rest p) ∙ e in
-    true≢false (sym (first-among rest) ∙ ap (λ (n : ℕ). among n (0 ∷ numbersOf rest)) k ∙ m)
+    first-other 8 rest m (sym (first-passes number applies rest p) ∙ e)
 
 -- a call that is decided by such tests
 decided : {A B : Type 0} (number : A → ℕ) (refused : ℕ → A) (nothing : B) (tests : List Test) (d : Decision A B) → number (d .answer) ≡ 0 → ((k : ℕ) → number (refused k) ≡ k) → Not8 tests

@@ -27,9 +27,10 @@ use Rattle.answers.specs.declared.ProduceAnswer.{ProduceAnswer}
 use Rattle.answers.specs.declared.ProduceAnswer.the-variants.{Refused as ProduceRefused}
 use Rattle.answers.proofs.Laws.{first-among, unless-keeps, unless-number}
 use Rattle.coordinator.specs.Coordinator.{rowOf, clockAt, Action, keep}
-use Rattle.coordinator.specs.Open.{readTests, takeOverTests, openTests, opening, refusedOpening, takenOver, logRead}
+use Rattle.log_reader.specs.Read.{logRead, readTests, refusedAnswer}
+use Rattle.coordinator.specs.Open.{takeOverTests, openTests, opening, refusedOpening, takenOver}
 use Rattle.coordinator.specs.declared.Coordinator.{Coordinator}
-use Rattle.coordinator.specs.declared.Opening.{Opening}
+use Rattle.coordinator.specs.declared.OpenedLog.{OpenedLog}
 use Rattle.partition.specs.declared.Partition.{Partition}
 use Rattle.coordinator.specs.Init.{initRowTests, initTests, initAccepted, init}
 use Rattle.coordinator.specs.Add.{addRowTests, addTests, add}
@@ -78,13 +79,13 @@ pub open-number : (text log : List ℕ) (n : ℕ) (epoch first last : ℤ) → o
 unfolding opening
 open-number text log n epoch first last = go (firstRefusal (openTests text log n epoch first last))
   where
-    refusal : (k offset : ℕ) → openReply (refusedOpening k offset .answer) .number ≡ k
+    refusal : (k offset : ℕ) → openReply (refusedAnswer k offset) .number ≡ k
     refusal k offset = by-cases (λ (a : OpenAnswer). openReply a .number ≡ k) (eqb k 6) (λ t. sym (eqb-true k 6 t)) (λ t. refl)
 
     go : (k : ℕ)
-        → openReply ((cond (eqb k 0) (record { answer = Opened; state = takenOver (parse text .catalogue) (logRead text log n .table) (length log) epoch first last }) (refusedOpening k (logRead text log n .table .end))) .answer) .number ≡ k
+        → openReply ((cond (eqb k 0) (record { answer = Opened; state = takenOver (parse text .catalogue) (logRead text log n .table) (length log) epoch first last }) (refusedOpening (refusedAnswer k (logRead text log n .table .end)))) .answer) .number ≡ k
     go k =
-        by-cases (λ (o : Opening). openReply (o .answer) .number ≡ k) (eqb k 0) (λ t. sym (eqb-true k 0 t)) (λ t. refusal k (logRead text log n .table .end))
+        by-cases (λ (o : OpenedLog). openReply (o .answer) .number ≡ k) (eqb k 0) (λ t. sym (eqb-true k 0 t)) (λ t. refusal k (logRead text log n .table .end))
 
 pub read-number : (p : Partition) (words : List ℕ) (from : ℕ) (out : List ℕ) → readReply (readAnswer p words from out) .number ≡ firstRefusal (readOffsetTests p (length words) from)
 unfolding readAnswer

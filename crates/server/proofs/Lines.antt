@@ -11,10 +11,11 @@ use Rattle.record.specs.Record.{nameBytes, nameFits}
 use Rattle.record.specs.Frame.{key, partitionBytes, topicEntry, topicBytes, topicsBelow, countBelow, topics, value, frame}
 use Rattle.search.specs.Search.{firstWhere, countWhere, sumOf}
 use Rattle.answers.specs.Refusals.{firstRefusal}
-use Rattle.table.specs.Scan.{scan}
+use Rattle.log_reader.specs.Read.{readTests}
+use Rattle.log_reader.specs.Scan.{scan}
 use Rattle.table.specs.Table.{placeOf, lowestFree, idCount, reserved, apply}
 use Rattle.coordinator.specs.Coordinator.{admits, notHeld, logFull, appended}
-use Rattle.coordinator.specs.Open.{readTests, takeOverTests, openTests, opening}
+use Rattle.coordinator.specs.Open.{takeOverTests, openTests, opening}
 use Rattle.coordinator.specs.Init.{initRow, initRowTests, initTests, initAccepted, init}
 use Rattle.coordinator.specs.Add.{allJoined, addRow, addRowTests, addTests, addAction, add}
 use Rattle.coordinator.specs.Tick.{overdue, overduePlace, tickTests, tickAccepted, tick}

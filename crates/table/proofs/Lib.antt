@@ -2,3 +2,5 @@
 pub mod Laws
 mod Made
 pub mod Reserve
+pub mod Records
+pub mod Fits

@@ -1,4 +1,4 @@
 -- Definitions of the crate table.
 pub mod Limits
 pub mod Table
-pub mod Scan
+pub mod Next
