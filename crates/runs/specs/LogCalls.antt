@@ -46,6 +46,6 @@ callTyped (callTick time) = fits w64 time
 abbrev pub openingTyped : ℤ → ℤ → ℤ → Bool
 openingTyped epoch first last = fits w32 epoch && fits w64 first && fits w64 last
 
--- "a negative coordinator epoch or first pid, last below first"; written out, not taken from the server, whose own test could be wrong on both sides
+-- "a negative coordinator epoch or first pid, last below first"; written out and not taken from the server, whose test would otherwise stand on both sides
 abbrev pub outOfOrder : ℤ → ℤ → ℤ → Bool
 outOfOrder epoch first last = ltZ epoch (pos 0) || ltZ first (pos 0) || ltZ last first
