@@ -1,19 +1,19 @@
 -- Laws of a number as a set of positions, over all numbers and positions.
 use mathlib.Core.Path.{_≡_, refl, sym, ap, ap₂, _∙_}
-use mathlib.Core.Bool.{Bool, true, false}
+use mathlib.Core.Bool.{Bool, true, false, true≢false}
 use mathlib.Core.List.{[], _∷_, _++_, append-nil}
 use Prim.Native.Nat.{ℕ, zero, suc, _+_, _-_, _*_, _/_, _%_, _^_, _≤_, _<_, min, max}
 use native.Mathlib.Nat.{div-div-eq-div-mul, div-eq-of-lt, div-one, pow-succ', two-pow-succ, min-le-right, min-eq-left, max-eq-right, max-zero, min-zero, zero-mul, sub-zero, lt-of-le-of-lt, lt-of-lt-of-le, mod-lt, add-zero, one-mul, add-mul}
 use native.Mathlib.Numerals.{one-add}
 use native.Mathlib.Decide.{ℕ-discrete}
 use native.Mathlib.Omega.{arith}
-use lib.Bits.{bitAnd, bitOr, and-shr, or-shr, and-step, or-step, and-block, or-disjoint, and-mask, and-zero-r, and-le-l, and-lt, or-lt}
+use lib.Bits.{bitAnd, bitOr, and-shr, or-shr, and-step, or-step, and-block, or-disjoint, and-mask, and-zero-r, and-comm, or-comm, and-le-l, and-le-r, and-lt, or-lt, or-add-and}
 use lib.Dec.{ltb}
 use lib.Count.{ones, ones-step, ones-cat, ones-le, trailingZeros, trailing-of-zero, under}
 use lib.ListN.{length, length-append}
 use lib.Pow.{pow-pos, pow-lt, pow-mono, ones-sub-lt, shr-shr, shr-lt, split}
 use borrow.Author.Tests.{ltb-true, ltb-false, eqb-true, eqb-false, eq-eqb, ne-eqb}
-use Rattle.bits.specs.Bits.{bit, Member, member, insert, differenceOf, subset, lowest, count, times, members}
+use Rattle.bits.specs.Bits.{bit, Member, member, insert, union, differenceOf, subset, lowest, count, times, members}
 
 -- ---- a digit at a time
 
@@ -120,6 +120,26 @@ member-false x p e =
 pub member-is-not : (x p : ℕ) → bit x p ≡ 0 → member x p ≡ false
 member-is-not x p e = ne-eqb (bit x p) 1 (λ m. omega arith)
 
+-- every member of a number of k digits is below k
+pub member-below : (k x p : ℕ) → x < 2 ^ k → member x p ≡ true → p < k
+member-below k x p h e =
+    let n : k ≤ p → ⊥ = λ l. omega (arith, member-true x p e, bit-high x k p h l) in
+    omega arith
+
+-- every number n has at most n digits
+digits-most : (n : ℕ) → n < 2 ^ n
+digits-most zero = omega arith
+digits-most (suc n) = omega (arith, two-pow-succ n, digits-most n)
+
+-- a number without a member is 0
+pub none-member : (x : ℕ) → ((p : ℕ) → member x p ≡ true → ⊥) → x ≡ 0
+none-member x n = same-members x x 0 (digits-most x) (pow-pos x) digit
+  where
+    digit : (p : ℕ) → p < x → bit x p ≡ bit 0 p
+    digit p l =
+        let z : bit x p ≡ 1 → ⊥ = λ m. n p (member-is x p m) in
+        omega (arith, bit-bound x p, bit-of-none p)
+
 -- ---- a subset
 
 pub subset-same : (a b : ℕ) → subset a b ≡ true → bitAnd a b ≡ a
@@ -140,24 +160,48 @@ pub subset-to : (k a b : ℕ) → a < 2 ^ k → b < 2 ^ k → ((p : ℕ) → p <
 subset-to k a b ha hb f =
     eq-eqb (bitAnd a b) a (same-members k (bitAnd a b) a (and-lt k a b ha hb) ha (λ p l. bit-and a b p ∙ min-eq-left (bit-le a b p (f p l))))
 
--- every number n has at most n digits
-digits-most : (n : ℕ) → n < 2 ^ n
-digits-most zero = omega arith
-digits-most (suc n) = omega (arith, two-pow-succ n, digits-most n)
+-- a set whose members are all of another
+pub subset-is : (a b : ℕ) → ((p : ℕ) → Member p a → Member p b) → subset a b ≡ true
+subset-is a b f =
+    eq-eqb (bitAnd a b) a (same-members a (bitAnd a b) a (lt-of-le-of-lt (and-le-l a b) (digits-most a)) (digits-most a)
+    (λ p l. bit-and a b p ∙ min-eq-left (bit-le a b p (f p))))
 
 pub subset-and : (a b : ℕ) → subset (bitAnd a b) b ≡ true
-subset-and a b = eq-eqb (bitAnd (bitAnd a b) b) (bitAnd a b) (same-members a (bitAnd (bitAnd a b) b) (bitAnd a b) (lt-of-le-of-lt (and-le-l (bitAnd a b) b) below) below digit)
-  where
-    below : bitAnd a b < 2 ^ a
-    below = lt-of-le-of-lt (and-le-l a b) (digits-most a)
-
-    digit : (p : ℕ) → p < a → bit (bitAnd (bitAnd a b) b) p ≡ bit (bitAnd a b) p
-    digit p l = bit-and (bitAnd a b) b p ∙ min-eq-left (omega (arith, bit-and a b p, min-le-right (bit a p) (bit b p)))
+subset-and a b = subset-is (bitAnd a b) b (λ p m. omega (arith, bit-and a b p, min-le-right (bit a p) (bit b p), bit-bound b p))
 
 pub subset-trans : (a b c : ℕ) → subset a b ≡ true → subset b c ≡ true → subset a c ≡ true
-subset-trans a b c e f =
-    eq-eqb (bitAnd a c) a (same-members a (bitAnd a c) a (lt-of-le-of-lt (and-le-l a c) (digits-most a)) (digits-most a)
-    (λ p l. bit-and a c p ∙ min-eq-left (bit-le a c p (λ m. subset-from b c f p (subset-from a b e p m)))))
+subset-trans a b c e f = subset-is a c (λ p m. subset-from b c f p (subset-from a b e p m))
+
+pub subset-none : (a : ℕ) → subset 0 a ≡ true
+subset-none a = refl
+
+-- two sets that contain each other are equal
+pub subset-both : (a b : ℕ) → subset a b ≡ true → subset b a ≡ true → a ≡ b
+subset-both a b e f = sym (subset-same a b e) ∙ and-comm a b ∙ subset-same b a f
+
+-- ---- a union
+
+pub union-left : (a b : ℕ) → subset a (union a b) ≡ true
+union-left a b = subset-is a (union a b) (λ p m. omega (arith, bit-or a b p, bit-bound b p))
+
+pub union-right : (a b : ℕ) → subset b (union a b) ≡ true
+union-right a b = rw (or-comm a b) (union-left b a)
+
+pub union-inside : (a b c : ℕ) → subset a c ≡ true → subset b c ≡ true → subset (union a b) c ≡ true
+union-inside a b c e f =
+    subset-is (union a b) c
+    (λ p m. omega (arith, bit-or a b p, bit-le a c p (subset-from a c e p), bit-le b c p (subset-from b c f p), bit-bound c p))
+
+pub union-least : (a b : ℕ) → a ≤ union a b
+union-least a b = omega (arith, or-add-and a b, and-le-r a b)
+
+-- with a subset
+pub union-subset : (a b : ℕ) → subset a b ≡ true → union a b ≡ b
+union-subset a b e = omega (arith, or-add-and a b, subset-same a b e)
+
+-- with a set that is no subset
+pub union-more : (a b : ℕ) → subset b a ≡ false → union a b ≡ a → ⊥
+union-more a b e q = true≢false (sym (union-right a b) ∙ ap (subset b) q ∙ e)
 
 -- ---- one member more
 
@@ -237,6 +281,36 @@ count-insert x p e =
     let s : ones (h + 1) ≡ ones h + 1 = rw (ones-step (h + 1), ones-step h, q) (omega arith) in
     let a : ones (x + 2 ^ p) ≡ ones (h + 1) + ones (x % 2 ^ p) = ap ones (sum-parts x p) ∙ ones-cat p (h + 1) (x % 2 ^ p) (mod-lt x (pow-pos p)) in
     ap ones (insert-new x p e) ∙ omega (arith, count-parts x p)
+
+-- ---- the members of a that are not members of b
+
+module _ (k a b : ℕ) (ha : a < 2 ^ k) (hb : b < 2 ^ k) (p : ℕ) where
+  -- at every position
+  bit-left : bit (differenceOf k a b) p ≡ min (bit a p) (1 - bit b p)
+  bit-left = go (ltb p k) refl
+    where
+      go : (t : Bool) → ltb p k ≡ t → bit (differenceOf k a b) p ≡ min (bit a p) (1 - bit b p)
+      go true e = bit-difference k a b p hb (ltb-true p k e)
+      go false e =
+          let l = ltb-false p k e in
+          omega (arith, bit-high (differenceOf k a b) k p (and-lt k a (2 ^ k - 1 - b) ha (ones-sub-lt k b)) l, bit-high a k p ha l)
+
+  pub left-parts : member (differenceOf k a b) p ≡ true → (member a p ≡ true) × (member b p ≡ false)
+  left-parts e =
+      let m = member-true (differenceOf k a b) p e in
+      (member-is a p (omega (arith, bit-left, bit-bound a p)), member-is-not b p (omega (arith, bit-left, bit-bound b p)))
+
+  pub left-is : member a p ≡ true → member b p ≡ false → member (differenceOf k a b) p ≡ true
+  left-is e f = member-is (differenceOf k a b) p (omega (arith, bit-left, member-true a p e, member-false b p f))
+
+-- one that is left with p taken into b was left before, and is not p
+pub left-without : (k a b p q : ℕ) → a < 2 ^ k → b < 2 ^ k → p < k → member (differenceOf k a (insert b p)) q ≡ true
+    → (member (differenceOf k a b) q ≡ true) × (q ≡ p → ⊥)
+left-without k a b p q ha hb l e =
+    let (m, f) = left-parts k a (insert b p) ha (insert-below k b p hb l) q e in
+    let z : bit (insert b p) q ≡ 0 = member-false (insert b p) q f in
+    let n : q ≡ p → ⊥ = λ i. omega (arith, insert-same b p, ap (bit (insert b p)) i) in
+    (left-is k a b ha hb q m (member-is-not b q (sym (insert-other b p q n) ∙ z)), n)
 
 -- p is a member of a and not of b: with p taken into b, the difference has one member less
 module _ (k a b p : ℕ) (ha : a < 2 ^ k) (hb : b < 2 ^ k) (l : p < k) (m : Member p a) (e : bit b p ≡ 0) where

@@ -79,3 +79,7 @@ module _ (text : List ℕ) (c : Catalogue) (e : parse text ≡ accepted c) where
   names-sized =
       let r = accepted-is text c e in
       ap (λ (x : Catalogue). length (x .names)) held ∙ held-sized (r .lines) (r .good) (r .few)
+
+-- no two topics of a text that is not refused have one name
+pub parsed-distinct : (text : List ℕ) → parse text .refusal ≡ 0 → Distinct (parse text .catalogue)
+parsed-distinct text e = distinct text (parse text .catalogue) (not-refused text e)

@@ -1,5 +1,5 @@
 -- The limits of a catalogue.
-use Prim.Native.Nat.{ℕ}
+use Prim.Native.Nat.{ℕ, _*_}
 
 -- document 01: "1 to 8 lines"
 abbrev pub topicsMax : ℕ
@@ -12,3 +12,7 @@ topicNameMax = 16
 -- "one digit 1 to 8 (its partitions)"
 abbrev pub partitionsMax : ℕ
 partitionsMax = 8
+
+-- eight topics of eight partitions
+abbrev pub positions : ℕ
+positions = topicsMax * partitionsMax

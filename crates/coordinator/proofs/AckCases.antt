@@ -1,18 +1,22 @@
--- Ack by cases: when it is refused, what its tests leave when they pass, and what it then answers and does.
-use Prim.Native.Nat.{ℕ}
+-- Ack by cases: when it is refused, what its tests leave when they pass, and what it then answers and does; what an acknowledged position changes.
+use Prim.Native.Nat.{ℕ, _<_}
 use mathlib.Core.Path.{_≡_, refl, _∙_}
 use mathlib.Core.Bool.{true, false}
+use native.Mathlib.Omega.{arith}
 use lib.IntN.{ℤ, pos}
+use lib.ListN.{length}
 use borrow.Author.Tests.{not-false}
-use Rattle.bits.specs.Bits.{member}
+use Rattle.bits.specs.Bits.{member, insert}
 use Rattle.numbers.proofs.Border.{eqZ-true}
-use Rattle.row.specs.Row.{free, isPrepare}
+use Rattle.row.specs.Row.{free, isPrepare, withAcknowledged}
 use Rattle.row.specs.Steps.{completed}
 use Rattle.answers.specs.Refusals.{firstRefusal, numbersOf, among}
 use Rattle.answers.specs.declared.Answer.the-variants.{Done, Refused}
 use Rattle.answers.proofs.Laws.{or-false-left, or-false-right, none-applies, unless-accepted, unless-refused}
-use Rattle.table.specs.Table.{rowAt}
-use Rattle.coordinator.specs.Coordinator.{admits, unflushed, keep, append, acknowledge}
+use Rattle.table.specs.Table.{rowAt, reserved, withRow}
+use Rattle.table.proofs.Laws.{with-same}
+use Rattle.table.proofs.Reserve.{reserved-with}
+use Rattle.coordinator.specs.Coordinator.{admits, unflushed, keep, append, acknowledge, acknowledged}
 use Rattle.coordinator.specs.Ack.{lastOutstanding, ackRowTests, ackTests, ackAction, ack}
 use Rattle.coordinator.specs.declared.Coordinator.{Coordinator}
 
@@ -70,3 +74,20 @@ module _ (s : Coordinator) (n place : ℕ) (pid epoch : ℤ) (position : ℕ) wh
         → ack s n place pid epoch position ≡ record { answer = Done; action = acknowledge place position }
     unfolding ackAction
     ack-noted m l = ack-accepted ∙ rw (m, l)
+
+-- ---- a position acknowledged
+
+module _ (s : Coordinator) (place position : ℕ) (h : place < length (s .table .rows)) where
+  -- the row of the place has it beside what it had
+  pub acknowledged-row : rowAt (acknowledged s place position .table) place
+      ≡ withAcknowledged (rowAt (s .table) place) (insert (rowAt (s .table) place .acknowledged) position)
+  unfolding acknowledged
+  acknowledged-row = with-same (s .table) place _ h
+
+  -- and the same buffers are admitted
+  pub acknowledged-admits : (n : ℕ) → admits (acknowledged s place position) n ≡ admits s n
+  unfolding acknowledged admits
+  acknowledged-admits n =
+      let row = rowAt (s .table) place in
+      let same : reserved (withRow (s .table) place (withAcknowledged row (insert (row .acknowledged) position))) ≡ reserved (s .table) = omega (arith, reserved-with (s .table) place (withAcknowledged row (insert (row .acknowledged) position)) h) in
+      rw same

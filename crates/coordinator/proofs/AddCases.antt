@@ -1,26 +1,26 @@
 -- Add by cases: when it is refused, what its tests leave when they pass, and what it then answers and does.
 use Prim.Native.Nat.{ℕ}
-use mathlib.Core.Path.{_≡_, refl, _∙_}
-use mathlib.Core.Bool.{true, false, not, _&&_}
+use mathlib.Core.Path.{_≡_, refl, ap, _∙_}
+use mathlib.Core.Bool.{true, false, not, _&&_, _||_}
 use mathlib.Core.List.{List}
 use lib.Dec.{eqb}
 use lib.IntN.{ℤ, pos}
-use borrow.Author.Tests.{eqb-false, not-false}
+use borrow.Author.Tests.{eqb-false, ne-eqb, not-false}
 use Rattle.bits.specs.Bits.{subset}
 use Rattle.numbers.specs.Border.{eqZ}
-use Rattle.numbers.proofs.Border.{eqZ-true, eqZ-false}
+use Rattle.numbers.proofs.Border.{eqZ-true, eqZ-is, eqZ-false, eqZ-is-not}
 use Rattle.record.specs.Record.{nameFits}
 use Rattle.row.specs.Limits.{epochMax}
 use Rattle.row.specs.Row.{isBegin, isPrepare}
 use Rattle.row.specs.Steps.{begun, widened}
 use Rattle.answers.specs.Refusals.{firstRefusal, numbersOf, among}
 use Rattle.answers.specs.declared.Answer.the-variants.{Done, Refused}
-use Rattle.answers.proofs.Laws.{or-false-left, or-false-right, none-applies, unless-accepted, unless-refused}
+use Rattle.answers.proofs.Laws.{or-false-left, or-false-right, none-applies, none-is, unless-accepted, unless-refused}
 use Rattle.table.specs.Table.{idCount}
 use Rattle.coordinator.specs.Coordinator.{admits, placeOfName, rowOf, holdsName, unflushed, clockAt, logFull, keep, advance, append}
 use Rattle.coordinator.specs.Add.{allJoined, addRow, addRowTests, addTests, addAction, add}
 use Rattle.coordinator.specs.declared.Coordinator.{Coordinator}
-use Rattle.coordinator.proofs.Held.{name-held, pid-held}
+use Rattle.coordinator.proofs.Held.{name-held, pid-held, held-is}
 
 module _ (s : Coordinator) (n : ℕ) (name : List ℕ) (pid epoch : ℤ) (set : ℕ) (time : ℤ) where
   pub add-refused : (firstRefusal (addTests s n name pid epoch set time) ≡ 0 → ⊥)
@@ -61,6 +61,16 @@ module _ (s : Coordinator) (n : ℕ) (name : List ℕ) (pid epoch : ℤ) (set : 
         unprepared = unprepared;
         room = room;
       }
+
+  -- where all of this holds, no test applies
+  pub add-passes : AddPassed → firstRefusal (addTests s n name pid epoch set time) ≡ 0
+  unfolding addTests addRowTests
+  add-passes p =
+      let listed : (eqb set 0 || not (subset set (s .catalogue .all))) ≡ false = rw (ne-eqb set 0 (p .some), p .listed) in
+      let fits : (not (eqZ epoch (pos (rowOf s name .epoch))) || eqZ epoch (pos epochMax)) ≡ false =
+      rw (eqZ-is epoch (pos (rowOf s name .epoch)) (p .same-epoch)) (eqZ-is-not epoch (pos epochMax) (p .below)) in
+      none-is (addTests s n name pid epoch set time)
+      (ap not (p .admitted), (ap not (p .named), (listed, (held-is s name pid (p .held) (p .same-pid), (fits, (p .flushed, (p .unprepared, (p .room, tt))))))))
 
   -- ---- what it answers and does
 

@@ -1,21 +1,21 @@
 -- End by cases: when it is refused, what its tests leave when they pass, and what it then answers and does.
 use Prim.Native.Nat.{ℕ, _≤_}
-use mathlib.Core.Path.{_≡_, refl, _∙_}
-use mathlib.Core.Bool.{true, false}
+use mathlib.Core.Path.{_≡_, refl, ap, _∙_}
+use mathlib.Core.Bool.{true, false, not}
 use mathlib.Core.List.{List}
 use lib.IntN.{ℤ, pos}
-use borrow.Author.Tests.{ltb-false, not-false}
-use Rattle.numbers.proofs.Border.{eqZ-true}
+use borrow.Author.Tests.{ltb-false, le-ltb, not-false}
+use Rattle.numbers.proofs.Border.{eqZ-true, eqZ-is}
 use Rattle.record.specs.Record.{nameFits}
 use Rattle.row.specs.Row.{isBegin, isPrepare}
 use Rattle.row.specs.Steps.{prepared, prepareOf, ended, raise}
 use Rattle.answers.specs.Refusals.{firstRefusal, numbersOf, among}
 use Rattle.answers.specs.declared.Answer.the-variants.{Done, Refused}
-use Rattle.answers.proofs.Laws.{none-applies, unless-accepted, unless-refused}
+use Rattle.answers.proofs.Laws.{none-applies, none-is, unless-accepted, unless-refused}
 use Rattle.coordinator.specs.Coordinator.{admits, placeOfName, rowOf, holdsName, unflushed, clockAt, keep, advance, append}
 use Rattle.coordinator.specs.End.{endFits, endRowTests, endTests, endAction, end}
 use Rattle.coordinator.specs.declared.Coordinator.{Coordinator}
-use Rattle.coordinator.proofs.Held.{name-held, pid-held}
+use Rattle.coordinator.proofs.Held.{name-held, pid-held, held-is}
 
 module _ (s : Coordinator) (n : ℕ) (name : List ℕ) (pid epoch : ℤ) (verdict : ℕ) (time : ℤ) where
   pub end-refused : (firstRefusal (endTests s n name pid epoch verdict) ≡ 0 → ⊥)
@@ -51,6 +51,24 @@ module _ (s : Coordinator) (n : ℕ) (name : List ℕ) (pid epoch : ℤ) (verdic
         status-fits = not-false _ g;
         unprepared = unprepared;
       }
+
+  -- where all of this holds, no test applies
+  pub end-passes : EndPassed → firstRefusal (endTests s n name pid epoch verdict) ≡ 0
+  unfolding endTests endRowTests
+  end-passes p =
+      none-is (endTests s n name pid epoch verdict) (
+        ap not (p .admitted),
+        (
+          ap not (p .named),
+          (
+            le-ltb 1 verdict (p .verdict-fits),
+            (
+              held-is s name pid (p .held) (p .same-pid),
+              (ap not (eqZ-is epoch (pos (rowOf s name .epoch)) (p .same-epoch)), (p .flushed, (ap not (p .status-fits), (p .unprepared, tt)))),
+            ),
+          ),
+        ),
+      )
 
   -- ---- what it answers and does
 

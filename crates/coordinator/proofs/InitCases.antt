@@ -1,6 +1,6 @@
 -- Init by cases: when it is refused, what its tests leave when they pass, and what it then answers and does.
 use Prim.Native.Nat.{ℕ, _+_}
-use mathlib.Core.Path.{_≡_, refl, _∙_}
+use mathlib.Core.Path.{_≡_, refl, ap, _∙_}
 use mathlib.Core.Bool.{true, false, not, _&&_}
 use mathlib.Core.List.{List}
 use lib.Dec.{ltb}
@@ -17,7 +17,7 @@ use Rattle.row.specs.Steps.{initialized, prepared, fenced, raise}
 use Rattle.answers.specs.Limits.{places}
 use Rattle.answers.specs.Refusals.{firstRefusal, numbersOf, among}
 use Rattle.answers.specs.declared.InitAnswer.the-variants.{Given, Aborting, Refused}
-use Rattle.answers.proofs.Laws.{none-applies, unless-accepted, unless-refused}
+use Rattle.answers.proofs.Laws.{none-applies, none-is, unless-accepted, unless-refused}
 use Rattle.table.specs.Table.{placeFor, lowestFree}
 use Rattle.coordinator.specs.Coordinator.{admits, rowOf, holdsName, unflushed, clockAt, newPid, logFull, keep, append}
 use Rattle.coordinator.specs.Init.{needsPid, initRow, idsThen, initRowTests, initTests, initAccepted, init}
@@ -56,6 +56,13 @@ module _ (s : Coordinator) (n : ℕ) (name : List ℕ) (timeout time : ℤ) wher
         unspent = unspent;
         room = room;
       }
+
+  -- where all of this holds, no test applies
+  pub init-passes : InitPassed → firstRefusal (initTests s n name timeout time) ≡ 0
+  unfolding initTests initRowTests
+  init-passes p =
+      none-is (initTests s n name timeout time)
+      (ap not (p .admitted), (ap not (p .named), (ap not (p .timed), (p .flushed, (p .unprepared, (p .placed, (p .unspent, (p .room, tt))))))))
 
   -- ---- what it answers and does
 

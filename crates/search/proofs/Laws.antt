@@ -1,9 +1,9 @@
--- Laws of searching a list with a test: where the first element that passes is, and how many pass; and of a sum over a list.
+-- Laws of searching a list with a test: where the first element that passes is, and how many pass; of a sum over a list; and of a list of images.
 use Prim.Native.Nat.{ℕ, zero, suc, _+_, _*_, _≤_, _<_}
 use mathlib.Core.Path.{_≡_, refl, ap, _∙_}
 use mathlib.Core.Bool.{Bool, true, false, cond, not}
 use mathlib.Core.Logic.{_↔_}
-use mathlib.Core.List.{List, [], _∷_, _++_}
+use mathlib.Core.List.{List, [], _∷_, _++_, map}
 use native.Mathlib.Nat.{add-zero, zero-add, mul-add, mul-one}
 use native.Mathlib.Numerals.{add-one}
 use native.Mathlib.Omega.{arith}
@@ -196,3 +196,34 @@ module _ {A : Type 0} (f : A → ℕ) where
       let here : f x ≤ cond (p x) k 0 = h 0 (omega arith) in
       either (p x) (λ e. let most : f x ≤ k = rw e at here in rw (e, mul-add k 1 (countWhere p l), mul-one k) (omega arith))
       (λ e. let most : f x ≤ 0 = rw e at here in rw (e, zero-add (countWhere p l)) (omega arith))
+
+-- ---- the images of the elements under a function
+
+module _ {A B : Type 0} (f : A → B) where
+  -- another element, and then the images
+  pub map-set : (l : List A) (i : ℕ) (x : A) → map f (set l i x) ≡ set (map f l) i (f x)
+  map-set [] i x = refl
+  map-set (y ∷ l) zero x = refl
+  map-set (y ∷ l) (suc i) x = ap (λ (m : List B). f y ∷ m) (map-set l i x)
+
+  -- a test of the images is a test of the elements
+  pub first-map : (p : B → Bool) (l : List A) → firstWhere p (map f l) ≡ firstWhere (λ (x : A). p (f x)) l
+  unfolding firstWhere
+  first-map p [] = refl
+  first-map p (x ∷ l) = rw (first-map p l)
+
+  pub count-map : (p : B → Bool) (l : List A) → countWhere p (map f l) ≡ countWhere (λ (x : A). p (f x)) l
+  unfolding countWhere
+  count-map p [] = refl
+  count-map p (x ∷ l) = rw (count-map p l)
+
+  -- and so is a sum
+  pub sum-map : (g : B → ℕ) (l : List A) → sumOf g (map f l) ≡ sumOf (λ (x : A). g (f x)) l
+  unfolding sumOf
+  sum-map g [] = refl
+  sum-map g (x ∷ l) = rw (sum-map g l)
+
+-- a function that changes no element leaves the list as it is
+pub map-same : {A : Type 0} (f : A → A) (l : List A) (d : A) → ((i : ℕ) → f (getD l i d) ≡ getD l i d) → map f l ≡ l
+map-same f [] d h = refl
+map-same f (x ∷ l) d h = rw (h 0, map-same f l d (λ i. h (suc i)))

@@ -4,3 +4,5 @@ mod Made
 pub mod Reserve
 pub mod Records
 pub mod Fits
+pub mod Unacknowledged
+pub mod Valid
