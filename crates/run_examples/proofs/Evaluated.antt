@@ -36,7 +36,7 @@ use mathlib.Core.Bool.{true}
 use Rattle.log_reader.specs.Records.{framesOf}
 use Rattle.runs.specs.History.{collect, collectWithBefore, endingBy, recordsOf, flushedOf, wordsOf}
 use Rattle.runs.specs.World.{openLeaders, run, recordsRead}
-use Rattle.runs.specs.Demand2.{writes}
+use Rattle.writer.specs.Writer.{writes}
 use Rattle.run_examples.specs.Checks.{ends}
 use Rattle.run_examples.specs.Examples.{Example, halfAcknowledged, whileCarrying, straightRun, orderBeforeFlush, orderBeforeWholeFlush, flushPastEnd, widenedNotFlushed, ordersAfterRestart, completesAfterRestart, completesAgain, timeoutPassed, cutInsideFrame, cutRun, openedWithRecords, slicesThatMeet8, couldHaveWritten, readsCommitted, runsAsDescribed, holds}
 

@@ -17,10 +17,8 @@ use Rattle.catalogue.specs.declared.Catalogue.{Catalogue}
 use Rattle.record.specs.Frame.{frame}
 use Rattle.record.specs.Record.{statusCode}
 use Rattle.record.specs.declared.Record.{Record}
-use Rattle.record.specs.declared.Status.{Status}
-use Rattle.record.specs.declared.Status.the-variants.{Begin}
-use Rattle.record.proofs.Statuses.{each}
-use Rattle.row.specs.Row.{isBegin, outstanding}
+use Rattle.row.proofs.Laws.{is-begin}
+use Rattle.row.specs.Row.{outstanding}
 use Rattle.row.specs.declared.Row.{Row}
 use Rattle.search.specs.Search.{isFound, found, ifFound, all, Each, Found}
 use Rattle.search.proofs.Each.{each-true, each-at-true, found-true, if-found-true}
@@ -32,9 +30,8 @@ use Rattle.answers.specs.declared.OrderAnswer.{OrderAnswer}
 use Rattle.answers.specs.declared.OrderAnswer.the-variants.{Order as Ordered, NoOrder}
 use Rattle.coordinator.specs.Coordinator.{logEnd}
 use Rattle.coordinator.specs.Order.{order}
-use Rattle.coordinator.proofs.OpenCases.{any-numbers}
+use Rattle.coordinator.proofs.OpenCases.{any-numbers, open-number}
 use Rattle.coordinator.proofs.OrderCases.{order-same}
-use Rattle.server.proofs.Demand1.{open-number}
 use Rattle.partition.specs.Limits.{entryWords}
 use Rattle.answers.specs.declared.ReadAnswer.{ReadAnswer}
 use Rattle.answers.specs.declared.ReadAnswer.the-variants.{Copied, Refused as ReadRefused}
@@ -143,9 +140,6 @@ log-true w e =
       ends = ends-true (catalogueOf w) records (search (and-left, and-right));
       lengths = lengths-true (w .phase) (w .history) (search (and-left, and-right));
     }
-
-is-begin : (s : Status) → isBegin s ≡ true → s ≡ Begin
-is-begin = each (λ s. isBegin s ≡ true → s ≡ Begin) (λ e. not-both refl e) (λ e. refl) (λ e. not-both refl e) (λ e. not-both refl e) (λ e. not-both refl e) (λ e. not-both refl e)
 
 entitled-true : (p : WithBefore Produced) → entitled p ≡ true → Found (Entitled (p .what) (p .before)) (latestOf (p .what .name) (p .before))
 entitled-true p =

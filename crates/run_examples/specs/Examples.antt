@@ -6,6 +6,7 @@ use lib.Dec.{eqb}
 use lib.IntN.{pos}
 use lib.ListN.{length, take}
 use Rattle.numbers.specs.Bytes.{same}
+use Rattle.record.specs.Reading.{isTornRest}
 use Rattle.record.specs.Record.{wellFormed}
 use Rattle.search.specs.Search.{all, sumOf}
 use Rattle.answers.specs.Answers.{openReply}
@@ -16,7 +17,7 @@ use Rattle.coordinator.specs.declared.OpenedLog.{OpenedLog}
 use Rattle.log_reader.specs.Records.{framesOf}
 use Rattle.runs.specs.History.{Logged, collect, carriedIn, markersIn, flushedPrepares, pendingPrepares, completedPrepares, transaction}
 use Rattle.runs.specs.World.{World, start, leaderAt, own, Item, callOrder, deliver, cut, run}
-use Rattle.runs.specs.Demand2.{Writer, writes, isTornRest}
+use Rattle.writer.specs.Writer.{Writer, writes}
 use Rattle.run_examples.specs.Checks.{kept, completesInTime, forFlushedPrepare, underItsVerdict, holdsAt, readsFrom}
 use Rattle.run_examples.specs.Runs.{scanText, buffer, lengthLeft, opened, both, carry, reopening, prepared, straight, afterCut, afterShared, orderedEarly, flushedShort, flushedPast, restarted, restartedCarried, completeLost, completeLostCarried, widenedEarly, tickedLate, carriedLate, carriedTwice, acknowledgedOnly, openedLater, lentOthers, writerItems, leftRecords, leftRest}
 

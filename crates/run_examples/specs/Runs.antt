@@ -6,9 +6,9 @@ use lib.ListN.{take, drop, replicate}
 use Rattle.record.specs.declared.Record.{Record}
 use Rattle.server.specs.Lines.{rig7}
 use Rattle.runs.specs.History.{recordsOf, contents}
-use Rattle.runs.specs.LogCalls.{callInit, callAdd, callEnd, callTick}
+use Rattle.writer.specs.LogCalls.{callInit, callAdd, callEnd, callTick}
 use Rattle.runs.specs.World.{World, FirstOpening, start, own, another, Item, call, callFlush, callOrder, callProduce, callRead, deliver, acknowledge, cut, reopen, run}
-use Rattle.runs.specs.Demand2.{WriterItem, logCall, flushCall}
+use Rattle.writer.specs.Writer.{WriterItem, logCall, flushCall}
 
 -- `scan` with two partitions
 abbrev pub scanText : List ℕ

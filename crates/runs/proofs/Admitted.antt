@@ -8,22 +8,24 @@ use lib.ListN.{length}
 use lib.Signed.{leZ}
 use borrow.Author.Tests.{eqb-true}
 use Rattle.numbers.proofs.Tests.{and-left}
+use Rattle.catalogue.specs.Limits.{positions}
 use Rattle.search.specs.Search.{Each}
 use Rattle.search.proofs.Each.{each-at, each-set, each-then}
 use Rattle.answers.specs.Answers.{openReply}
 use Rattle.coordinator.specs.Coordinator.{Action, keep, advance, append, acknowledge, flushTo, appended, acknowledged, after}
 use Rattle.coordinator.specs.Open.{opening}
 use Rattle.coordinator.specs.declared.Coordinator.{Coordinator}
+use Rattle.coordinator.proofs.OpenCases.{open-number}
 use Rattle.coordinator.proofs.Reserve.{Reserved, admits-length, opening-reserved, opening-room, log-length}
 use Rattle.partition.specs.Partition.{Action as PartitionAction, keep as keepPartition, note, write, after as partitionAfter, admits as partitionAdmits}
 use Rattle.partition.specs.declared.Partition.{Partition}
 use Rattle.partition.proofs.Reserve.{Reserved as PartitionReserved, admits-length as words-admits, opened-reserved, opened-room}
-use Rattle.server.proofs.Demand1.{open-number}
-use Rattle.runs.specs.World.{Leader, openLeader, openLeaders, positions, Phase, up, down, World, leaderAt, FirstOpening, start, Accepted, Item, step, run}
+use Rattle.writer.proofs.Decisions.{decided-reserved}
+use Rattle.runs.specs.World.{Leader, openLeader, openLeaders, Phase, up, down, World, leaderAt, FirstOpening, start, Accepted, Item, step, run}
 use Rattle.runs.specs.InEveryRun.{AdmitsLog, AdmitsExactly}
 use Rattle.runs.proofs.Run.{run-keeps}
 use Rattle.runs.proofs.Changes.{step-changes}
-use Rattle.runs.proofs.Decisions.{decided-reserved, led-keeps}
+use Rattle.runs.proofs.Decisions.{led-keeps}
 
 -- ---- what every item keeps
 
@@ -97,7 +99,7 @@ step-own x w o =
             });
       };
       cuts = λ i s u n e. record { of-log = tt; of-words = o .of-words };
-      reopens = λ i n before u epoch first last e. record {
+      reopens = λ i n before u epoch first last t e. record {
         of-log = opening-own (w .text) (w .log) n epoch first last (eqb-true _ 0 (and-left (eqb (openReply (opening (w .text) (w .log) n epoch first last .answer) .number) 0) (leZ (pos before) epoch) e));
         of-words = o .of-words;
       };

@@ -10,7 +10,6 @@ use lib.Signed.{leZ}
 use Rattle.answers.specs.Answers.{openReply}
 use Rattle.coordinator.specs.Coordinator.{logEnd, Action, keep, advance, append, acknowledge as acknowledged, flushTo, after, logAfter}
 use Rattle.coordinator.specs.Open.{opening}
-use Rattle.coordinator.specs.Flush.{flush}
 use Rattle.coordinator.specs.Order.{order}
 use Rattle.coordinator.specs.Ack.{ack}
 use Rattle.coordinator.specs.declared.Coordinator.{Coordinator}
@@ -18,9 +17,10 @@ use Rattle.partition.specs.Partition.{Action as PartitionAction, keep as keepPa
 use Rattle.partition.specs.Marker.{marker}
 use Rattle.partition.specs.declared.Partition.{Partition}
 use Rattle.server.specs.Produce.{produce}
-use Rattle.runs.specs.LogCalls.{LogCall, actionOf}
+use Rattle.writer.specs.LogCalls.{openingTyped, actionOf}
+use Rattle.writer.proofs.Decisions.{Decided, byCall, byFlush, byAck}
 use Rattle.runs.specs.History.{Order, Event, logCut, logOpened, orderCarried, History}
-use Rattle.runs.specs.World.{up, down, Carrying, nothing, toDeliver, World, leaderAt, own, another, Item, call, callFlush, callOrder, callProduce, callRead, deliver, acknowledge, cut, reopen, withState, withPhase, withLeader, withPartition, historyAfter, historyWritten, leaderDoes, lentPartition, next, step}
+use Rattle.runs.specs.World.{up, down, Carrying, nothing, toDeliver, World, leaderAt, own, another, Item, call, callFlush, callOrder, callProduce, callRead, deliver, acknowledge, cut, reopen, withState, withPhase, withLeader, withPartition, historyAfter, historyWritten, leaderDoes, lentPartition, typed, next, step}
 use Rattle.runs.proofs.Cases.{step-cases, while-up-cases, lent-cases, leader-cases, deliverable-cases, acknowledgeable-cases, read-cases, cut-cases, reopened-cases, answered-cases}
 
 -- ---- kinds of items
@@ -72,12 +72,6 @@ Touches (cut n) w y = ⊥
 Touches (reopen epoch first last) w y = ⊥
 
 -- ---- actions
-
--- what the coordinator decides on when it is lent n bytes
-pub data Decided (s : Coordinator) (n : ℕ) (a : Action) : Type 0 where
-  byCall : (c : LogCall) → a ≡ actionOf c s n → Decided s n a
-  byFlush : (length : ℕ) → a ≡ flush s length .action → Decided s n a
-  byAck : (place : ℕ) (pid epoch : ℤ) (position : ℕ) → a ≡ ack s n place pid epoch position .action → Decided s n a
 
 -- what a partition decides on when it is lent n words
 pub data Led (p : Partition) (n : ℕ) (a : PartitionAction) : Type 0 where
@@ -132,7 +126,7 @@ pub record Changes (x : Item) (w : World) (P : World → Type 0) : Type 0 where
   pub cuts : isCut x ≡ true → (s : Coordinator) → w .phase ≡ up s → (n : ℕ) → (leb (s .flushed) n && leb n (logEnd s)) ≡ true
       → P (withPhase w (down n (s .epoch)) (logCut n))
   pub reopens : isReopening x ≡ true → (n before : ℕ) → w .phase ≡ down n before → (epoch first last : ℤ)
-      → (eqb (openReply (opening (w .text) (w .log) n epoch first last .answer) .number) 0 && leZ (pos before) epoch) ≡ true
+      → openingTyped epoch first last ≡ true → (eqb (openReply (opening (w .text) (w .log) n epoch first last .answer) .number) 0 && leZ (pos before) epoch) ≡ true
       → P (withPhase w (up (opening (w .text) (w .log) n epoch first last .state)) logOpened)
 
 module _ (P : World → Type 0) (w : World) where
@@ -149,45 +143,45 @@ module _ (P : World → Type 0) (w : World) where
   rest : (x : Item) → Changes x w P → P w
   rest x k = k .rests (w .carrying) []
 
-  next-changes : (x : Item) → Changes x w P → P (next x w)
-  next-changes (call lent c) k =
+  next-changes : (x : Item) → typed x ≡ true → Changes x w P → P (next x w)
+  next-changes (call lent c) t k =
       while-up-cases P w (rest (call lent c) k) _
-      (λ s u. lent-cases P w (rest (call lent c) k) lent (actionOf c s) s (λ o. acts-after (call lent c) k refl s u _ (byCall c refl) [])
-      (λ n d. k .acts-elsewhere refl s u n d _ (byCall c refl)))
-  next-changes (callFlush n) k =
+      (λ s u. lent-cases P w (rest (call lent c) k) lent (actionOf c s) s (λ o. acts-after (call lent c) k refl s u _ (byCall c t refl) [])
+      (λ n d. k .acts-elsewhere refl s u n d _ (byCall c t refl)))
+  next-changes (callFlush n) t k =
       while-up-cases P w (rest (callFlush n) k) _ (λ s u. acts-after (callFlush n) k refl s u _ (byFlush n refl) [])
-  next-changes (callOrder set) k =
+  next-changes (callOrder set) t k =
       while-up-cases P w (rest (callOrder set) k) _
       (λ s u. answered-cases P w s (order s set) (k .rests nothing []) (λ place pid epoch verdict position coordinator e. k .rests _ (_ ∷ [])))
-  next-changes (callProduce lent other name pid epoch position sequence payload) k =
+  next-changes (callProduce lent other name pid epoch position sequence payload) t k =
       while-up-cases P w (rest (callProduce lent other name pid epoch position sequence payload) k) _
-      (λ s u. let t : Touches (callProduce lent other name pid epoch position sequence payload) w (lentPartition s position other) = (s, u, refl) in
+      (λ s u. let y : Touches (callProduce lent other name pid epoch position sequence payload) w (lentPartition s position other) = (s, u, refl) in
       leader-cases P w (rest (callProduce lent other name pid epoch position sequence payload) k) lent (lentPartition s position other) _ _ _
-      (λ o. leads-after (callProduce lent other name pid epoch position sequence payload) k _ t _ (byProduce s name pid epoch position sequence payload refl) _ _)
-      (λ n d. k .leads-elsewhere _ t n d _ (byProduce s name pid epoch position sequence payload refl) _))
-  next-changes (callRead lent x from out) k =
+      (λ o. leads-after (callProduce lent other name pid epoch position sequence payload) k _ y _ (byProduce s name pid epoch position sequence payload refl) _ _)
+      (λ n d. k .leads-elsewhere _ y n d _ (byProduce s name pid epoch position sequence payload refl) _))
+  next-changes (callRead lent x from out) t k =
       while-up-cases P w (rest (callRead lent x from out) k) _ (λ s u. read-cases P w (rest (callRead lent x from out) k) lent x (k .rests nothing []))
-  next-changes (deliver lent i) k =
+  next-changes (deliver lent i) t k =
       while-up-cases P w (rest (deliver lent i) k) _
       (λ s u. deliverable-cases P w (rest (deliver lent i) k) i _
-      (λ o c. let t : Touches (deliver lent i) w (o .position) = (o, c, refl) in
+      (λ o c. let y : Touches (deliver lent i) w (o .position) = (o, c, refl) in
       leader-cases P w (rest (deliver lent i) k) lent (o .position) _ _ _
-      (λ l. leads-after (deliver lent i) k _ t _ (byMarker (o .place) (o .pid) (o .epoch) (o .verdict) (o .coordinator) refl) _ _)
-      (λ n d. k .leads-elsewhere _ t n d _ (byMarker (o .place) (o .pid) (o .epoch) (o .verdict) (o .coordinator) refl) _)))
-  next-changes (acknowledge own i) k =
+      (λ l. leads-after (deliver lent i) k _ y _ (byMarker (o .place) (o .pid) (o .epoch) (o .verdict) (o .coordinator) refl) _ _)
+      (λ n d. k .leads-elsewhere _ y n d _ (byMarker (o .place) (o .pid) (o .epoch) (o .verdict) (o .coordinator) refl) _)))
+  next-changes (acknowledge own i) t k =
       while-up-cases P w (rest (acknowledge own i) k) _
       (λ s u. acknowledgeable-cases P w (rest (acknowledge own i) k) i _
       (λ o c. acts-after (acknowledge own i) k refl s u _ (byAck (o .place) (o .pid) (o .epoch) (o .position) refl) (orderCarried o ∷ [])))
-  next-changes (acknowledge (another slice) i) k =
+  next-changes (acknowledge (another slice) i) t k =
       while-up-cases P w (rest (acknowledge (another slice) i) k) _
       (λ s u. acknowledgeable-cases P w (rest (acknowledge (another slice) i) k) i _
       (λ o c. lent-cases P w (rest (acknowledge (another slice) i) k) (another slice) (λ n. ack s n (o .place) (o .pid) (o .epoch) (o .position) .action) s
       (λ e. acts-after (acknowledge (another slice) i) k refl s u _ (byAck (o .place) (o .pid) (o .epoch) (o .position) refl) [])
       (λ n d. k .acts-elsewhere refl s u n d _ (byAck (o .place) (o .pid) (o .epoch) (o .position) refl))))
-  next-changes (cut n) k = while-up-cases P w (rest (cut n) k) _ (λ s u. cut-cases P w (rest (cut n) k) n s (k .cuts refl s u n))
-  next-changes (reopen epoch first last) k =
-      reopened-cases P w (rest (reopen epoch first last) k) epoch first last (λ n before u e. k .reopens refl n before u epoch first last e)
+  next-changes (cut n) t k = while-up-cases P w (rest (cut n) k) _ (λ s u. cut-cases P w (rest (cut n) k) n s (k .cuts refl s u n))
+  next-changes (reopen epoch first last) t k =
+      reopened-cases P w (rest (reopen epoch first last) k) epoch first last (λ n before u e. k .reopens refl n before u epoch first last t e)
 
   -- what holds of each of these worlds holds of the next one
   pub step-changes : (x : Item) → Changes x w P → P (step x w)
-  step-changes x k = step-cases P x w (k .rests (w .carrying) []) (λ t. next-changes x k)
+  step-changes x k = step-cases P x w (k .rests (w .carrying) []) (λ t. next-changes x t k)

@@ -14,12 +14,13 @@ use Rattle.coordinator.specs.Coordinator.{Action, keep, logAfter}
 use Rattle.coordinator.specs.Flush.{flushTests, flush}
 use Rattle.coordinator.proofs.Reserve.{Reserved, opening-reserved}
 use Rattle.partition.proofs.Fits.{fits-length}
+use Rattle.writer.proofs.Decisions.{decided-reserved, decided-length}
 use Rattle.runs.specs.History.{History, eventsBefore, logCut, logOpened}
 use Rattle.runs.specs.World.{Leader, openLeader, Phase, up, down, World, leaderAt, Item, callFlush, coordinatorDoes, step, run}
 use Rattle.runs.proofs.Run.{run-keeps, run-same}
 use Rattle.runs.proofs.Cases.{while-up-cases}
 use Rattle.runs.proofs.Changes.{ofLog, isCut, isReopening, Touches, step-changes}
-use Rattle.runs.proofs.Decisions.{decided-reserved, decided-length, led-fits}
+use Rattle.runs.proofs.Decisions.{led-fits}
 
 -- ---- the catalogue's text
 
@@ -33,7 +34,7 @@ step-text x w =
       leads = λ y t a d c new. refl;
       leads-elsewhere = λ y t n o a d c. refl;
       cuts = λ i s u n e. refl;
-      reopens = λ i n before u epoch first last e. refl;
+      reopens = λ i n before u epoch first last t e. refl;
     })
 
 pub run-text : (items : List Item) (w : World) → run items w .text ≡ w .text
@@ -52,7 +53,7 @@ same-leaders x w untouched =
       leads = λ y t a d c new. absurd (untouched y t);
       leads-elsewhere = λ y t n o a d c. absurd (untouched y t);
       cuts = λ i s u n e. refl;
-      reopens = λ i n before u epoch first last e. refl;
+      reopens = λ i n before u epoch first last t e. refl;
     })
 
 -- and these only at their own position
@@ -66,7 +67,7 @@ other-leader x w y untouched =
       leads = λ z t a d c new. getD-set-other (w .leaders) z y _ (openLeader []) (λ e. untouched (subst (Touches x w) (sym e) t));
       leads-elsewhere = λ z t n o a d c. getD-set-other (w .leaders) z y _ (openLeader []) (λ e. untouched (subst (Touches x w) (sym e) t));
       cuts = λ i s u n e. refl;
-      reopens = λ i n before u epoch first last e. refl;
+      reopens = λ i n before u epoch first last t e. refl;
     })
 
 -- the log: changed by calls of the coordinator only
@@ -80,7 +81,7 @@ same-log x w other =
       leads = λ y t a d c new. refl;
       leads-elsewhere = λ y t n o a d c. refl;
       cuts = λ i s u n e. refl;
-      reopens = λ i n before u epoch first last e. refl;
+      reopens = λ i n before u epoch first last t e. refl;
     })
 
 -- of these Flush does not change it
@@ -101,7 +102,7 @@ same-phase x w other =
       leads = λ y t a d c new. refl;
       leads-elsewhere = λ y t n o a d c. refl;
       cuts = λ i s u n e. not-both (search (or-false-left, or-false-right)) i;
-      reopens = λ i n before u epoch first last e. not-both (search (or-false-left, or-false-right)) i;
+      reopens = λ i n before u epoch first last t e. not-both (search (or-false-left, or-false-right)) i;
     })
 
 -- ---- lengths
@@ -120,7 +121,7 @@ step-lengths x w =
       leads = λ y t a d c new. map-set-same wordsLength (w .leaders) y _ (openLeader []) (fits-length (leaderAt w y .partition) (leaderAt w y .words) a (led-fits _ _ a d));
       leads-elsewhere = λ y t n o a d c. map-set-same wordsLength (w .leaders) y _ (openLeader []) refl;
       cuts = λ i s u n e. refl;
-      reopens = λ i n before u epoch first last e. refl;
+      reopens = λ i n before u epoch first last t e. refl;
     })
 
 pub run-lengths : (items : List Item) (w : World) → map wordsLength (run items w .leaders) ≡ map wordsLength (w .leaders)
@@ -162,7 +163,7 @@ step-reserved x w r =
       leads = λ y t a d c new. r;
       leads-elsewhere = λ y t n o a d c. r;
       cuts = λ i s u n e. tt;
-      reopens = λ i n before u epoch first last e. opening-reserved (w .text) (w .log) n epoch first last;
+      reopens = λ i n before u epoch first last t e. opening-reserved (w .text) (w .log) n epoch first last;
     })
 
 pub run-reserved : (items : List Item) (w : World) → ReservedPhase (w .phase) → ReservedPhase (run items w .phase)
@@ -179,7 +180,7 @@ step-log-length x w r =
       leads = λ y t a d c new. refl;
       leads-elsewhere = λ y t n o a d c. refl;
       cuts = λ i s u n e. refl;
-      reopens = λ i n before u epoch first last e. refl;
+      reopens = λ i n before u epoch first last t e. refl;
     })
 
 pub run-log-length : (items : List Item) (w : World) → ReservedPhase (w .phase) → length (run items w .log) ≡ length (w .log)
@@ -202,7 +203,7 @@ step-grown x w =
       leads = λ y t a d c new. (new, refl);
       leads-elsewhere = λ y t n o a d c. ([], refl);
       cuts = λ i s u n e. (logCut n ∷ [], refl);
-      reopens = λ i n before u epoch first last e. (logOpened ∷ [], refl);
+      reopens = λ i n before u epoch first last t e. (logOpened ∷ [], refl);
     })
 
 grown-further : (w v u : World) → Grown w v → Grown v u → Grown w u

@@ -14,11 +14,11 @@ use Rattle.table.specs.Table.{apply}
 use Rattle.coordinator.specs.Coordinator.{logEnd, rowFrame, Action, keep, advance, append, acknowledge as acknowledgeAt, flushTo, appended, acknowledged, after, logAfter}
 use Rattle.coordinator.specs.declared.Coordinator.{Coordinator}
 use Rattle.coordinator.proofs.Laws.{admits-room}
+use Rattle.writer.proofs.Decisions.{AppendsAdmitted, decided-admitted}
 use Rattle.runs.specs.World.{Phase, up, down, World, Item, call, callFlush, callOrder, callProduce, callRead, deliver, acknowledge, cut, reopen, step, run}
 use Rattle.runs.specs.Demand3.{Undisturbed}
 use Rattle.runs.proofs.Run.{run-keeps-of}
 use Rattle.runs.proofs.Changes.{isCut, step-changes}
-use Rattle.runs.proofs.Decisions.{AppendsAdmitted, decided-admitted}
 
 -- the end of the log; while the coordinator is down, the length that the cut left
 abbrev pub endOfPhase : Phase → ℕ
@@ -64,7 +64,7 @@ step-below x w =
       leads = λ y t a d c new. refl;
       leads-elsewhere = λ y t n o a d c. refl;
       cuts = λ i s u n e. refl;
-      reopens = λ i n before u epoch first last e. refl;
+      reopens = λ i n before u epoch first last t e. refl;
     })
 
 -- the coordinator is up and the end is not below n
@@ -81,7 +81,7 @@ step-up x w whole h =
       leads = λ y t a d c new. (h, omega arith);
       leads-elsewhere = λ y t n o a d c. (h, omega arith);
       cuts = λ i s u n e. not-both whole i;
-      reopens = λ i n before u epoch first last e. absurd (subst IsUp u h);
+      reopens = λ i n before u epoch first last t e. absurd (subst IsUp u h);
     })
 
 -- ---- a list without a cut

@@ -27,7 +27,7 @@ use Rattle.coordinator.specs.Ack.{ack}
 use Rattle.partition.specs.Limits.{entryWords}
 use Rattle.partition.specs.Marker.{marker}
 use Rattle.partition.specs.Read.{standsUnder}
-use Rattle.runs.specs.LogCalls.{outOfOrder}
+use Rattle.writer.specs.LogCalls.{outOfOrder}
 use Rattle.log_reader.specs.Records.{framesOf}
 use Rattle.runs.specs.History.{Order, Produced, History, ordersIn, producedIn, markersIn, collect, Logged, recordsOf, contents, endOf, flushedOf, isFlushed, recordNumbered, latestOf, nextOf, flushedPrepares, listed, isCompleted, completedPrepares, pendingPrepares, transaction, carriedFor, markersFor, wordsOf, WithBefore, collectWithBefore}
 use Rattle.runs.specs.World.{Leader, Phase, up, down, Carrying, nothing, toDeliver, toAcknowledge, World, catalogueOf, leaderAt, FirstOpening, start, Accepted, Lent, own, another, Item, call, callFlush, callOrder, callProduce, callRead, deliver, acknowledge, cut, reopen, run}

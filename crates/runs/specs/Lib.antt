@@ -1,7 +1,5 @@
--- Definitions of the crate runs: the world of runs, and demands 2 and 3 as statements over it.
+-- Definitions of the crate runs: the world of runs, and demand 3 as a statement over it.
 pub mod History
-pub mod LogCalls
 pub mod World
 pub mod Demand3
-pub mod Demand2
 pub mod InEveryRun

@@ -1,5 +1,5 @@
 -- The world of a run: the server with the buffers lent to it, and what may come next. `step` is one item of a list, `run` the whole list.
-use Prim.Native.Nat.{ℕ, zero, suc, _+_, _-_, _*_}
+use Prim.Native.Nat.{ℕ, zero, suc, _+_, _-_}
 use mathlib.Core.Path.{_≡_}
 use mathlib.Core.Bool.{Bool, true, cond, _&&_}
 use mathlib.Core.List.{List, [], _∷_}
@@ -12,7 +12,7 @@ use mir.Syntax.{w16, w32, w64}
 use Rattle.numbers.specs.Border.{fits}
 use Rattle.numbers.specs.Padded.{padded}
 use Rattle.bits.specs.Bits.{member}
-use Rattle.catalogue.specs.Limits.{topicsMax, partitionsMax}
+use Rattle.catalogue.specs.Limits.{positions}
 use Rattle.catalogue.specs.Catalogue.{parse}
 use Rattle.catalogue.specs.declared.Catalogue.{Catalogue}
 use Rattle.record.specs.Limits.{nameMax}
@@ -36,7 +36,7 @@ use Rattle.partition.specs.Partition.{openPartition, Action as PartitionAction,
 use Rattle.partition.specs.Marker.{marker}
 use Rattle.partition.specs.declared.Partition.{Partition}
 use Rattle.server.specs.Produce.{produce}
-use Rattle.runs.specs.LogCalls.{LogCall, isWord, openingTyped, callTyped, actionOf}
+use Rattle.writer.specs.LogCalls.{LogCall, isWord, openingTyped, callTyped, actionOf}
 use Rattle.runs.specs.History.{Order, Event, recordAppended, logFlushed, logCut, logOpened, orderGiven, markerWritten, orderCarried, entryWritten, History, Logged, latestOf}
 
 -- ---- the world
@@ -97,10 +97,6 @@ unfoldable pub openLeaders : ℕ → List (List ℕ) → List Leader
 openLeaders zero words = []
 openLeaders (suc n) [] = openLeader [] ∷ openLeaders n []
 openLeaders (suc n) (l ∷ words) = openLeader l ∷ openLeaders n words
-
--- eight topics of eight partitions
-abbrev pub positions : ℕ
-positions = topicsMax * partitionsMax
 
 -- the arguments of a first opening, and the words lent to each partition, by position
 pub record FirstOpening : Type 0 where

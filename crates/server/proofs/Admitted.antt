@@ -29,6 +29,7 @@ use Rattle.coordinator.specs.End.{endRowTests, endTests, end}
 use Rattle.coordinator.specs.Tick.{tickTests, tick}
 use Rattle.coordinator.specs.Flush.{flush}
 use Rattle.coordinator.specs.Ack.{ackRowTests, ackTests, ack}
+use Rattle.coordinator.proofs.OpenCases.{open-number}
 use Rattle.coordinator.proofs.Reserve.{Reserved, admits-length, opening-reserved, opening-room, init-reserved, add-reserved, end-reserved, tick-reserved, flush-reserved, ack-reserved, log-length}
 use Rattle.partition.specs.Partition.{admits as partitionAdmits, keep as partitionKeep, Action as PartitionAction}
 use Rattle.partition.specs.Marker.{markerTests, marker}
@@ -40,7 +41,7 @@ use Rattle.server.specs.Produce.{produceRowTests, produceTests, produce}
 use Rattle.server.specs.Lines.{afterAll}
 use Rattle.server.specs.Demand1.{refusalsOf}
 use Rattle.server.specs.Admitted.{openedWith, Next, call, lend, afterEach, Admits, Admitted}
-use Rattle.server.proofs.Demand1.{init-done, tick-done, open-number, read-number, demand-1}
+use Rattle.server.proofs.Demand1.{init-done, tick-done, read-number, demand-1}
 use Rattle.server.proofs.Produce.{produce-passed}
 
 pub produce-keeps : (s : Coordinator) (p : Partition) (n : ℕ) (name : List ℕ) (pid epoch : ℤ) (position : ℕ) (sequence : ℤ) (payload : ℕ) → PartitionReserved p

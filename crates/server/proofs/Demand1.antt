@@ -1,14 +1,14 @@
 -- Demand 1 holds of every call, on every state, with every argument and every buffer.
 use Prim.Native.Nat.{ℕ}
 use mathlib.Core.Path.{_≡_, refl, sym, ap, _∙_, subst}
-use mathlib.Core.Bool.{true, cond}
+use mathlib.Core.Bool.{true}
 use mathlib.Core.List.{List, [], _∷_}
 use lib.Dec.{eqb, ltb}
 use lib.IntN.{ℤ}
 use lib.ListN.{length}
 use borrow.Author.Tests.{eqb-true}
 use Rattle.numbers.proofs.Tests.{by-cases}
-use Rattle.answers.specs.Answers.{reply, openReply, initReply, tickReply, orderReply, produceReply, readReply}
+use Rattle.answers.specs.Answers.{reply, initReply, tickReply, orderReply, produceReply, readReply}
 use Rattle.answers.specs.Refusals.{Test, firstRefusal, numbersOf, among, Decision, unless}
 use Rattle.answers.specs.declared.Answer.{Answer}
 use Rattle.answers.specs.declared.Answer.the-variants.{Refused}
@@ -17,20 +17,16 @@ use Rattle.answers.specs.declared.InitAnswer.the-variants.{Refused as InitRefus
 use Rattle.answers.specs.declared.TickAnswer.{TickAnswer}
 use Rattle.answers.specs.declared.TickAnswer.the-variants.{Refused as TickRefused}
 use Rattle.answers.specs.declared.OrderAnswer.{OrderAnswer}
-use Rattle.answers.specs.declared.OpenAnswer.{OpenAnswer}
-use Rattle.answers.specs.declared.OpenAnswer.the-variants.{Opened}
 use Rattle.answers.specs.declared.ReadAnswer.{ReadAnswer}
 use Rattle.answers.specs.Limits.{places}
-use Rattle.catalogue.specs.Catalogue.{parse}
 use Rattle.row.specs.Row.{isBegin}
 use Rattle.answers.specs.declared.ProduceAnswer.{ProduceAnswer}
 use Rattle.answers.specs.declared.ProduceAnswer.the-variants.{Refused as ProduceRefused}
 use Rattle.answers.proofs.Laws.{first-among, unless-keeps, unless-number}
 use Rattle.coordinator.specs.Coordinator.{rowOf, clockAt, Action, keep}
-use Rattle.log_reader.specs.Read.{logRead, readTests, refusedAnswer}
-use Rattle.coordinator.specs.Open.{takeOverTests, openTests, opening, refusedOpening, takenOver}
+use Rattle.log_reader.specs.Read.{readTests}
+use Rattle.coordinator.specs.Open.{takeOverTests, openTests}
 use Rattle.coordinator.specs.declared.Coordinator.{Coordinator}
-use Rattle.coordinator.specs.declared.OpenedLog.{OpenedLog}
 use Rattle.partition.specs.declared.Partition.{Partition}
 use Rattle.coordinator.specs.Init.{initRowTests, initTests, initAccepted, init}
 use Rattle.coordinator.specs.Add.{addRowTests, addTests, add}
@@ -39,6 +35,7 @@ use Rattle.coordinator.specs.Tick.{overduePlace, tickTests, tickAccepted, tick}
 use Rattle.coordinator.specs.Flush.{flushTests, flush}
 use Rattle.coordinator.specs.Order.{orderPlace, order}
 use Rattle.coordinator.specs.Ack.{ackRowTests, ackTests, ack}
+use Rattle.coordinator.proofs.OpenCases.{open-number}
 use Rattle.partition.specs.Partition.{Action as PartitionAction, keep as partitionKeep}
 use Rattle.partition.specs.Marker.{markerTests, marker}
 use Rattle.partition.specs.Read.{readTests as readOffsetTests, readAnswer, readOut}
@@ -74,18 +71,6 @@ unfolding order
 order-done s up = by-cases (λ (a : OrderAnswer). orderReply a .number ≡ 0) (ltb (orderPlace s up) places) (λ t. refl) (λ t. refl)
 
 -- ---- the calls that are not decided so
-
-pub open-number : (text log : List ℕ) (n : ℕ) (epoch first last : ℤ) → openReply (opening text log n epoch first last .answer) .number ≡ firstRefusal (openTests text log n epoch first last)
-unfolding opening
-open-number text log n epoch first last = go (firstRefusal (openTests text log n epoch first last))
-  where
-    refusal : (k offset : ℕ) → openReply (refusedAnswer k offset) .number ≡ k
-    refusal k offset = by-cases (λ (a : OpenAnswer). openReply a .number ≡ k) (eqb k 6) (λ t. sym (eqb-true k 6 t)) (λ t. refl)
-
-    go : (k : ℕ)
-        → openReply ((cond (eqb k 0) (record { answer = Opened; state = takenOver (parse text .catalogue) (logRead text log n .table) (length log) epoch first last }) (refusedOpening (refusedAnswer k (logRead text log n .table .end)))) .answer) .number ≡ k
-    go k =
-        by-cases (λ (o : OpenedLog). openReply (o .answer) .number ≡ k) (eqb k 0) (λ t. sym (eqb-true k 0 t)) (λ t. refusal k (logRead text log n .table .end))
 
 pub read-number : (p : Partition) (words : List ℕ) (from : ℕ) (out : List ℕ) → readReply (readAnswer p words from out) .number ≡ firstRefusal (readOffsetTests p (length words) from)
 unfolding readAnswer

@@ -1,0 +1,13 @@
+-- Laws of the crate writer: what its items do to a log and its records, and the theorem of demand 2.
+pub mod Decisions
+pub mod Lawful
+pub mod Written
+mod OpeningAnswers
+pub mod Reopening
+pub mod Reached
+mod Appends
+mod ClockCall
+mod Acks
+mod Completing
+mod CouldWrite
+pub mod Demand2
