@@ -156,10 +156,6 @@ bit-le a b p f = go (bit a p) refl
     go zero e = omega arith
     go (suc d) e = omega (arith, f (omega (arith, bit-bound a p)))
 
-pub subset-to : (k a b : ℕ) → a < 2 ^ k → b < 2 ^ k → ((p : ℕ) → p < k → Member p a → Member p b) → subset a b ≡ true
-subset-to k a b ha hb f =
-    eq-eqb (bitAnd a b) a (same-members k (bitAnd a b) a (and-lt k a b ha hb) ha (λ p l. bit-and a b p ∙ min-eq-left (bit-le a b p (f p l))))
-
 -- a set whose members are all of another
 pub subset-is : (a b : ℕ) → ((p : ℕ) → Member p a → Member p b) → subset a b ≡ true
 subset-is a b f =

@@ -31,7 +31,7 @@ module _ (s : Coordinator) (name : List ℕ) (pid : ℤ) (h : notHeld s name pid
   unfolding notHeld
   pid-held = eqZ-true pid _ (not-false _ (or-false-right (not (holdsName s name)) _ h))
 
--- and back
+-- a name that is held with that pid is not refused with 10
 pub held-is : (s : Coordinator) (name : List ℕ) (pid : ℤ) → holdsName s name ≡ true → pid ≡ pos (rowOf s name .pid) → notHeld s name pid ≡ false
 unfolding notHeld
 held-is s name pid h e = rw (h, eqZ-is pid (pos (rowOf s name .pid)) e)

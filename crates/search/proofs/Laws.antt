@@ -212,11 +212,6 @@ module _ {A B : Type 0} (f : A → B) where
   first-map p [] = refl
   first-map p (x ∷ l) = rw (first-map p l)
 
-  pub count-map : (p : B → Bool) (l : List A) → countWhere p (map f l) ≡ countWhere (λ (x : A). p (f x)) l
-  unfolding countWhere
-  count-map p [] = refl
-  count-map p (x ∷ l) = rw (count-map p l)
-
   -- and so is a sum
   pub sum-map : (g : B → ℕ) (l : List A) → sumOf g (map f l) ≡ sumOf (λ (x : A). g (f x)) l
   unfolding sumOf

@@ -35,12 +35,10 @@ use Rattle.answers.specs.Limits.{places}
 use Rattle.answers.specs.Refusals.{firstRefusal, Decision}
 use Rattle.table.specs.Limits.{reserve}
 use Rattle.table.specs.Next.{mayCome}
-use Rattle.table.specs.Table.{rowAt, placeOf, lowestFree, idCount, reserved}
+use Rattle.table.specs.Table.{rowAt, placeOf, lowestFree, idCount}
 use Rattle.table.specs.declared.Table.{Table}
 use Rattle.table.proofs.Laws.{ids-most, come-time, come-either, come-follows, come-back}
-use Rattle.table.proofs.Valid.{Valid}
 use Rattle.coordinator.specs.Coordinator.{admits, placeOfName, rowOf, holdsName, unflushed, clockAt, newPid, logFull, Action, append}
-use Rattle.coordinator.specs.Open.{takenOver}
 use Rattle.coordinator.specs.Init.{needsPid, initRow, idsThen, initTests}
 use Rattle.coordinator.specs.Add.{allJoined, addRow, addTests}
 use Rattle.coordinator.specs.End.{endFits}
@@ -50,6 +48,7 @@ use Rattle.coordinator.proofs.Reserve.{admits-own}
 use Rattle.coordinator.proofs.InitCases.{init-passes, init-aborting, init-new, init-next}
 use Rattle.coordinator.proofs.AddCases.{add-passes, add-begun, add-widened}
 use Rattle.coordinator.proofs.EndCases.{end-passes, end-prepared}
+use Rattle.writer.proofs.Reopened.{reopened, Reopens}
 use Rattle.writer.specs.LogCalls.{LogCall, callInit, callAdd, callEnd, callTyped, actionOf}
 use Rattle.writer.specs.Items.{abortCall}
 
@@ -61,18 +60,14 @@ pub record Appends (s : Coordinator) (n : ℕ) (call : LogCall) (r : Record) : T
   pub does : actionOf call s n ≡ append place row
   pub record-is : recordOf row ≡ r
 
--- the state after a log was opened again with a block of one pid, that of a record
-abbrev pub reopened : Catalogue → Table → ℕ → Record → Coordinator
-reopened c t room r = takenOver c t room (pos 0) (r .pid) (r .pid)
-
 -- what a decided call does
 does : {A : Type 0} {d e : Decision A Action} → d ≡ e → d .action ≡ e .action
 does {A} q = ap (λ (d : Decision A Action). d .action) q
 
-module _ (c : Catalogue) (t : Table) (room : ℕ) (r : Record) (v : Valid c t) (ends : (place : ℕ) → rowAt t place .end ≤ t .end)
-    (w : wellFormed c r ≡ true) (m : mayCome t r ≡ true) (reserved-met : t .end + reserved t ≤ room) (spacious : t .end + frameMax + reserve * suc places ≤ room) where
+module _ (c : Catalogue) (t : Table) (room : ℕ) (o : Reopens c t room) (r : Record) (w : wellFormed c r ≡ true) (m : mayCome t r ≡ true)
+    (spacious : t .end + frameMax + reserve * suc places ≤ room) where
   abbrev s : Coordinator
-  s = reopened c t room r
+  s = reopened c t room (r .pid)
 
   abbrev name : List ℕ
   name = recordName r
@@ -90,11 +85,11 @@ module _ (c : Catalogue) (t : Table) (room : ℕ) (r : Record) (v : Valid c t) (
   -- ---- what every call asks of the state
 
   admitted : admits s room ≡ true
-  admitted = admits-own s (record { proper = v .proper; within = reserved-met })
+  admitted = admits-own s (record { proper = o .valid .proper; within = o .reserve-met })
 
   -- the whole log is flushed
   flushed : unflushed (s .flushed) before ≡ false
-  flushed = le-ltb (t .end) (before .end) (ends (placeOfName s name))
+  flushed = le-ltb (t .end) (before .end) (o .ends (placeOfName s name))
 
   -- there is room for any record
   not-full : (row : Row) (ids : ℕ) → ids ≤ suc places → logFull s row ids ≡ false
@@ -119,7 +114,7 @@ module _ (c : Catalogue) (t : Table) (room : ℕ) (r : Record) (v : Valid c t) (
   held-follows = rw (name-back c r w) (come-follows t r m)
 
   same-name : known ≡ true → r .name ≡ before .name
-  same-name k = sym (held-name s (v .proper .all) name k ∙ name-back c r w)
+  same-name k = sym (held-name s (o .valid .proper .all) name k ∙ name-back c r w)
 
   -- a call appends the record if it appends the row that holds it
   by-row : (call : LogCall) (place : ℕ) (row : Row) → callTyped call ≡ true → actionOf call s room ≡ append place row → row ≡ held r 0 → Appends s room call r
@@ -138,8 +133,8 @@ module _ (c : Catalogue) (t : Table) (room : ℕ) (r : Record) (v : Valid c t) (
   timed = let (n, e, low, high) = f .timeout-natural in rw e (range-is 1 timeoutMax n low high)
 
   ids-few : (b : Bool) → idsThen s b ≤ suc places
-  ids-few true = omega (arith, ids-most t, v .proper .all)
-  ids-few false = omega (arith, ids-most t, v .proper .all)
+  ids-few true = omega (arith, ids-most t, o .valid .proper .all)
+  ids-few false = omega (arith, ids-most t, o .valid .proper .all)
 
   -- what is left to ask: no prepare, a place and a pid
   init-accepted : isPrepare (before .status) ≡ false → (not known && not (ltb (lowestFree t) places)) ≡ false
@@ -184,11 +179,11 @@ module _ (c : Catalogue) (t : Table) (room : ℕ) (r : Record) (v : Valid c t) (
   fence-appends e k begins p =
       let b : isBegin (before .status) ≡ true = ap isBegin begins in
       let accepted = init-accepted (ap isPrepare begins) (rw k) (rw b) in
-      let raised : raise fenced (before .epoch) ≡ before .epoch + 1 = omega (arith, v .begun (placeOfName s name) b) in
+      let raised : raise fenced (before .epoch) ≡ before .epoch + 1 = omega (arith, o .valid .begun (placeOfName s name) b) in
       by-row _ _ _ init-typed (does (init-aborting s room name (r .timeout) (r .updated) accepted b))
       (rw (clock-is, raised) (prepared-held c before r w (same-name k) PrepareAbort (before .epoch + 1) e p))
 
-  pub init-appends : r .status ≡ Empty → Appends (reopened c t room r) room (callInit (recordName r) (r .timeout) (r .updated)) r
+  pub init-appends : r .status ≡ Empty → Appends (reopened c t room (r .pid)) room (callInit (recordName r) (r .timeout) (r .updated)) r
   init-appends e = either-way (λ k g. again k g (ltb (before .epoch) epochLast) refl) anew
     where
       again : known ≡ true → follows (t .next) before r ≡ true → (b : Bool) → ltb (before .epoch) epochLast ≡ b → Appends s room initCall r
@@ -201,7 +196,7 @@ module _ (c : Catalogue) (t : Table) (room : ℕ) (r : Record) (v : Valid c t) (
       anew : known ≡ false → first (t .next) r ≡ true → ltb (lowestFree t) places ≡ true → Appends s room initCall r
       anew k g place =
           let past : places ≤ placeOfName s name = ltb-false (placeOfName s name) places k in
-          let none : before ≡ freeRow = List·getD-eq-default (t .rows) freeRow (omega (arith, v .proper .all)) in
+          let none : before ≡ freeRow = List·getD-eq-default (t .rows) freeRow (omega (arith, o .valid .proper .all)) in
           new-appends e (ap (λ (row : Row). idle (row .status)) none) (rw k) (rw (k, place)) (first-new (t .next) r g .1)
 
   -- ---- Add
@@ -232,7 +227,7 @@ module _ (c : Catalogue) (t : Table) (room : ℕ) (r : Record) (v : Valid c t) (
         below = λ q. let z : before .epoch ≡ epochMax = ap toNat (sym epoch ∙ q) in omega arith;
         flushed = flushed;
         unprepared = unprepared;
-        room = rw (not-full row (idCount t) (omega (arith, ids-most t, v .proper .all))) (and-false (not (allJoined before (r .joined))));
+        room = rw (not-full row (idCount t) (omega (arith, ids-most t, o .valid .proper .all))) (and-false (not (allJoined before (r .joined))));
       })
 
   -- a transaction begins
@@ -247,12 +242,12 @@ module _ (c : Catalogue) (t : Table) (room : ℕ) (r : Record) (v : Valid c t) (
   unfolding allJoined
   widen-appends e k begins p =
       let b : isBegin (before .status) ≡ true = ap isBegin begins in
-      let accepted = add-accepted e k (p .pid-kept) (p .epoch-kept) (v .begun (placeOfName s name) b) (ap isPrepare begins) in
+      let accepted = add-accepted e k (p .pid-kept) (p .epoch-kept) (o .valid .begun (placeOfName s name) b) (ap isPrepare begins) in
       let more : allJoined before (r .joined) ≡ false = rw b (widens-more before r p) in
       by-row _ _ _ add-typed (does (add-widened s room name (r .pid) (r .epoch) (r .joined) (r .updated) accepted b more))
       (rw clock-is (widened-held c before r w (same-name k) e p))
 
-  pub add-appends : r .status ≡ Begin → Appends (reopened c t room r) room (callAdd (recordName r) (r .pid) (r .epoch) (r .joined) (r .updated)) r
+  pub add-appends : r .status ≡ Begin → Appends (reopened c t room (r .pid)) room (callAdd (recordName r) (r .pid) (r .epoch) (r .joined) (r .updated)) r
   add-appends e =
       let (k, g) = held-follows (λ q. not-both (ap isBegin q) (ap isBegin e)) in
       go k g (idle (before .status)) refl (follows-status (t .next) before r Begin e g)
@@ -291,14 +286,14 @@ module _ (c : Catalogue) (t : Table) (room : ℕ) (r : Record) (v : Valid c t) (
       by-row _ _ _ (end-typed verdict) (does (end-prepared s room name (r .pid) (r .epoch) verdict (r .updated) accepted (ap isBegin begins)))
       (rw clock-is (prepared-held c before r w (same-name k) (prepareOf verdict) (before .epoch) e p))
 
-  pub commit-appends : r .status ≡ PrepareCommit → Appends (reopened c t room r) room (callEnd (recordName r) (r .pid) (r .epoch) 0 (r .updated)) r
+  pub commit-appends : r .status ≡ PrepareCommit → Appends (reopened c t room (r .pid)) room (callEnd (recordName r) (r .pid) (r .epoch) 0 (r .updated)) r
   commit-appends e =
       let (k, g) = held-follows (λ q. not-both (ap isPrepare q) (ap isPrepare e)) in
       let begins = same-status (before .status) Begin (follows-status (t .next) before r PrepareCommit e g) in
       end-appends 0 (omega arith) e k begins (follows-commits (t .next) before r g e)
 
   -- an abort is of End, or of Init where its epoch is the next
-  pub abort-appends : r .status ≡ PrepareAbort → Appends (reopened c t room r) room (abortCall (rowAt t (placeOf t (r .name))) r) r
+  pub abort-appends : r .status ≡ PrepareAbort → Appends (reopened c t room (r .pid)) room (abortCall (rowAt t (placeOf t (r .name))) r) r
   abort-appends e =
       let (k, g) = held-follows (λ q. not-both (ap isPrepare q) (ap isPrepare e)) in
       let begins = same-status (before .status) Begin (follows-status (t .next) before r PrepareAbort e g) in

@@ -1,5 +1,5 @@
 -- The call that raises the clock after an opening appends nothing: an Add of partitions that are all joined, or a Tick where no transaction has begun.
-use Prim.Native.Nat.{ℕ, _+_, _^_, _≤_, _<_}
+use Prim.Native.Nat.{ℕ, _^_, _≤_, _<_}
 use mathlib.Core.Path.{_≡_, refl, sym, ap, _∙_}
 use mathlib.Core.Bool.{true, false, not}
 use mathlib.Core.List.{List}
@@ -13,7 +13,7 @@ use Rattle.numbers.specs.Border.{fits, toNat}
 use Rattle.numbers.specs.Padded.{padded}
 use Rattle.numbers.proofs.Border.{natural-back, later-is, fits-is}
 use Rattle.numbers.proofs.Tests.{by-cases}
-use Rattle.bits.proofs.Laws.{subset-to}
+use Rattle.bits.proofs.Laws.{subset-is}
 use Rattle.catalogue.specs.declared.Catalogue.{Catalogue}
 use Rattle.record.specs.Limits.{nameMax}
 use Rattle.record.specs.Record.{idle, recordName, wellFormed}
@@ -28,13 +28,11 @@ use Rattle.answers.specs.Refusals.{firstRefusal, Decision}
 use Rattle.answers.specs.declared.Answer.{Answer}
 use Rattle.answers.specs.declared.TickAnswer.{TickAnswer}
 use Rattle.answers.proofs.Laws.{none-is}
-use Rattle.table.specs.Table.{rowAt, placeOf, reserved}
+use Rattle.table.specs.Table.{rowAt, placeOf}
 use Rattle.table.specs.declared.Table.{Table}
 use Rattle.table.proofs.Records.{place-own}
 use Rattle.table.proofs.Reserve.{busy-held}
-use Rattle.table.proofs.Valid.{Valid}
 use Rattle.coordinator.specs.Coordinator.{admits, clockAt, Action, advance}
-use Rattle.coordinator.specs.Open.{takenOver}
 use Rattle.coordinator.specs.Add.{allJoined, addTests}
 use Rattle.coordinator.specs.Tick.{overdue, tickTests}
 use Rattle.coordinator.specs.declared.Coordinator.{Coordinator}
@@ -42,16 +40,17 @@ use Rattle.coordinator.proofs.AddCases.{add-passes, add-nothing}
 use Rattle.coordinator.proofs.Reserve.{admits-own}
 use Rattle.coordinator.proofs.TickCases.{overdue-nowhere, tick-none}
 use Rattle.writer.specs.Items.{begunPlace, addJoined, clockCall}
+use Rattle.writer.proofs.Reopened.{reopened, Reopens}
 use Rattle.writer.specs.LogCalls.{LogCall, callTick, callTyped, actionOf}
 
-module _ (c : Catalogue) (t : Table) (room : ℕ) (pid updated : ℤ) (v : Valid c t) (ends : (place : ℕ) → rowAt t place .end ≤ t .end)
-    (reserved-met : t .end + reserved t ≤ room) (fit : fits w64 updated ≡ true) (time : leZ (pos (t .updated)) updated ≡ true) where
+module _ (c : Catalogue) (t : Table) (room : ℕ) (o : Reopens c t room) (pid updated : ℤ) (fit : fits w64 updated ≡ true)
+    (time : leZ (pos (t .updated)) updated ≡ true) where
   abbrev s : Coordinator
-  s = takenOver c t room (pos 0) pid pid
+  s = reopened c t room pid
 
   -- the buffer is admitted
   admitted : admits s room ≡ true
-  admitted = admits-own s (record { proper = v .proper; within = reserved-met })
+  admitted = admits-own s (record { proper = o .valid .proper; within = o .reserve-met })
 
   -- ---- where a transaction has begun
 
@@ -63,17 +62,17 @@ module _ (c : Catalogue) (t : Table) (room : ℕ) (pid updated : ℤ) (v : Valid
     name = recordName (recordOf row)
 
     begins : isBegin (row .status) ≡ true
-    begins = first-found (λ (x : Row). isBegin (x .status)) (t .rows) freeRow (omega (arith, v .proper .all))
+    begins = first-found (λ (x : Row). isBegin (x .status)) (t .rows) freeRow (omega (arith, o .valid .proper .all))
 
     busy : idle (row .status) ≡ false
     busy = begin-busy (row .status) begins
 
     -- the row holds a name, for a free row is idle
     held : free row ≡ false
-    held = busy-held row (v .proper .each (begunPlace t)) busy
+    held = busy-held row (o .valid .proper .each (begunPlace t)) busy
 
     formed : wellFormed c (recordOf row) ≡ true
-    formed = v .formed (begunPlace t) held
+    formed = o .valid .formed (begunPlace t) held
 
     known : WellFormed c (recordOf row)
     known = well-formed-parts c (recordOf row) formed
@@ -81,27 +80,27 @@ module _ (c : Catalogue) (t : Table) (room : ℕ) (pid updated : ℤ) (v : Valid
     -- its name is held at its place
     own : placeOf t (padded nameMax name) ≡ begunPlace t
     own =
-        place-own t (padded nameMax name) (v .proper .all) (v .differ) (begunPlace t) (name-starts name (name-fits c (recordOf row) formed))
+        place-own t (padded nameMax name) (o .valid .proper .all) (o .valid .differ) (begunPlace t) (name-starts name (name-fits c (recordOf row) formed))
         (sym (name-back c (recordOf row) formed))
 
     -- all that it has joined is joined
     joined : allJoined row (row .joined) ≡ true
     unfolding allJoined
-    joined = rw begins (subset-to 64 (row .joined) (row .joined) (known .joined-below) (known .joined-below) (λ p l m. m))
+    joined = rw begins (subset-is (row .joined) (row .joined) (λ p m. m))
 
     some : row .joined ≡ 0 → ⊥
     some z = omega (arith, some-joined (row .status) (row .joined) busy (known .joined-status))
 
     -- its numbers are those of its record
     same-pid : recordOf row .pid ≡ pos (row .pid)
-    same-pid = natural-back w64 (row .pid) (v .fits .each (begunPlace t) .pid-fits)
+    same-pid = natural-back w64 (row .pid) (o .valid .fits .each (begunPlace t) .pid-fits)
 
     same-epoch : recordOf row .epoch ≡ pos (row .epoch)
-    same-epoch = natural-back w16 (row .epoch) (v .fits .each (begunPlace t) .epoch-fits)
+    same-epoch = natural-back w16 (row .epoch) (o .valid .fits .each (begunPlace t) .epoch-fits)
 
     -- "Epoch 32767 is refusal 11.", and no transaction has begun with it
     below : recordOf row .epoch ≡ pos epochMax → ⊥
-    below q = let e : row .epoch ≡ epochMax = ap toNat (sym same-epoch ∙ q) in omega (arith, v .begun (begunPlace t) begins)
+    below q = let e : row .epoch ≡ epochMax = ap toNat (sym same-epoch ∙ q) in omega (arith, o .valid .begun (begunPlace t) begins)
 
     unprepared : isPrepare (row .status) ≡ false
     unprepared = ap isPrepare (is-begin (row .status) begins)
@@ -114,12 +113,12 @@ module _ (c : Catalogue) (t : Table) (room : ℕ) (pid updated : ℤ) (v : Valid
           admitted = admitted;
           named = name-fits c (recordOf row) formed;
           some = some;
-          listed = v .fits .joined (begunPlace t);
+          listed = o .valid .fits .joined (begunPlace t);
           held = rw own (lt-ltb (begunPlace t) places h);
           same-pid = rw own same-pid;
           same-epoch = rw own same-epoch;
           below = below;
-          flushed = rw own (le-ltb (t .end) (row .end) (ends (begunPlace t)));
+          flushed = rw own (le-ltb (t .end) (row .end) (o .ends (begunPlace t)));
           unprepared = rw own unprepared;
           room = rw (own, joined) refl;
         })
@@ -146,7 +145,7 @@ module _ (c : Catalogue) (t : Table) (room : ℕ) (pid updated : ℤ) (v : Valid
   unfolding tickTests
   tick-advances h =
       ap (λ (d : Decision TickAnswer Action). d .action)
-      (tick-none s room updated (none-is (tickTests s room) (ap not admitted, tt)) (overdue-nowhere s (clockAt s updated) (v .proper .all) .1 (none-overdue h)))
+      (tick-none s room updated (none-is (tickTests s room) (ap not admitted, tt)) (overdue-nowhere s (clockAt s updated) (o .valid .proper .all) .1 (none-overdue h)))
 
   -- ---- either way
 
@@ -155,7 +154,7 @@ module _ (c : Catalogue) (t : Table) (room : ℕ) (pid updated : ℤ) (v : Valid
       by-cases (λ (call : LogCall). callTyped call ≡ true) (ltb (begunPlace t) places) (λ e. joined-typed (ltb-true (begunPlace t) places e)) (λ e. fit)
 
   -- the clock is the time given
-  pub clock-advances : actionOf (clockCall t updated) (takenOver c t room (pos 0) pid pid) room ≡ advance (toNat updated)
+  pub clock-advances : actionOf (clockCall t updated) (reopened c t room pid) room ≡ advance (toNat updated)
   clock-advances =
       by-cases (λ (call : LogCall). actionOf call s room ≡ advance (clockAt s updated)) (ltb (begunPlace t) places)
       (λ e. joined-advances (ltb-true (begunPlace t) places e)) (λ e. tick-advances (ltb-false (begunPlace t) places e))

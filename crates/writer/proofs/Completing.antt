@@ -1,5 +1,5 @@
 -- After an opening with a block of its pid and with the clock raised, a prepare awaits the Acks that append its complete record.
-use Prim.Native.Nat.{ℕ, _+_, _≤_, _<_, _^_}
+use Prim.Native.Nat.{ℕ, _<_, _^_}
 use mathlib.Core.Path.{_≡_, refl, sym, ap, _∙_}
 use mathlib.Core.Bool.{true, false}
 use mathlib.Core.List.{List}
@@ -24,18 +24,17 @@ use Rattle.succession.proofs.Laws.{follows-completes}
 use Rattle.succession.proofs.Steps.{completed-held}
 use Rattle.answers.specs.Limits.{places}
 use Rattle.table.specs.Next.{mayCome}
-use Rattle.table.specs.Table.{rowAt, placeOf, holds, reserved}
+use Rattle.table.specs.Table.{rowAt, placeOf, holds}
 use Rattle.table.specs.declared.Table.{Table}
 use Rattle.table.proofs.Laws.{place-found, come-follows, come-back}
-use Rattle.table.proofs.Valid.{Valid}
 use Rattle.coordinator.specs.Coordinator.{advance, after}
 use Rattle.coordinator.specs.declared.Coordinator.{Coordinator}
 use Rattle.coordinator.proofs.Reserve.{admits-own}
 use Rattle.writer.proofs.Acks.{Acknowledging}
-use Rattle.writer.proofs.Appends.{reopened}
+use Rattle.writer.proofs.Reopened.{reopened, Reopens}
 
-module _ (c : Catalogue) (t : Table) (r : Record) (v : Valid c t) (ends : (place : ℕ) → rowAt t place .end ≤ t .end)
-    (w : wellFormed c r ≡ true) (m : mayCome t r ≡ true) (log : List ℕ) (reserved-met : t .end + reserved t ≤ length log) (new : r .status ≡ Empty → ⊥) (prepares : isPrepare (rowAt t (placeOf t (r .name)) .status) ≡ true) where
+module _ (c : Catalogue) (t : Table) (log : List ℕ) (o : Reopens c t (length log)) (r : Record) (w : wellFormed c r ≡ true) (m : mayCome t r ≡ true)
+    (new : r .status ≡ Empty → ⊥) (prepares : isPrepare (rowAt t (placeOf t (r .name)) .status) ≡ true) where
   abbrev place : ℕ
   place = placeOf t (r .name)
 
@@ -47,47 +46,47 @@ module _ (c : Catalogue) (t : Table) (r : Record) (v : Valid c t) (ends : (place
   found = come-follows t r m new
 
   named : r .name ≡ row .name
-  named = sym (place-found t (r .name) (omega (arith, ltb-true place places (found .0), v .proper .all)))
+  named = sym (place-found t (r .name) (omega (arith, ltb-true place places (found .0), o .valid .proper .all)))
 
   busy : free row ≡ false
   busy = ne-eqb _ 0 (λ z. formed-starts c r w (ap (λ (l : List ℕ). getD l 0 0) named ∙ z))
 
   parts : WellFormed c (recordOf row)
-  parts = well-formed-parts c (recordOf row) (v .formed place busy)
+  parts = well-formed-parts c (recordOf row) (o .valid .formed place busy)
 
   -- a prepare lists partitions
   joined-some : row .joined ≡ 0 → ⊥
   joined-some z = omega (arith, some-joined (row .status) (row .joined) (of-prepare (λ s. idle s ≡ false) refl refl (row .status) prepares) (parts .joined-status))
 
   none-yet : row .acknowledged < 2 ^ 64
-  none-yet = omega (arith, v .none-acknowledged place)
+  none-yet = omega (arith, o .valid .none-acknowledged place)
 
   -- none of them is acknowledged
   some-outstanding : outstanding row ≡ 0 → ⊥
   some-outstanding z =
       joined-some (none-member (row .joined)
-      (λ q j. not-both (rw z (none q)) (left-is 64 (row .joined) (row .acknowledged) (parts .joined-below) none-yet q j (rw (v .none-acknowledged place) (none q)))))
+      (λ q j. not-both (rw z (none q)) (left-is 64 (row .joined) (row .acknowledged) (parts .joined-below) none-yet q j (rw (o .valid .none-acknowledged place) (none q)))))
     where
       none : (q : ℕ) → member 0 q ≡ false
       none q = member-is-not 0 q (bit-of-none q)
 
   -- the state that awaits them
   abbrev raised : Coordinator
-  raised = after (advance (toNat (r .updated))) (reopened c t (length log) r)
+  raised = after (advance (toNat (r .updated))) (reopened c t (length log) (r .pid))
 
-  pub awaiting : Acknowledging (record { state = after (advance (toNat (r .updated))) (reopened c t (length log) r); log = log }) (placeOf t (r .name)) r positions
+  pub awaiting : Acknowledging (record { state = after (advance (toNat (r .updated))) (reopened c t (length log) (r .pid)); log = log }) (placeOf t (r .name)) r positions
   awaiting =
       let (status, kept) = follows-completes (t .next) row r (found .1) prepares in
       record {
-        admitted = admits-own raised (record { proper = v .proper; within = reserved-met });
+        admitted = admits-own raised (record { proper = o .valid .proper; within = o .reserve-met });
         flushed-within = omega arith;
         held = busy;
         pid-is = kept .pid-kept;
         epoch-is = kept .epoch-kept;
-        flushed = le-ltb (t .end) (row .end) (ends place);
+        flushed = le-ltb (t .end) (row .end) (o .ends place);
         prepares = prepares;
         joined-fits = parts .joined-below;
-        inside = v .fits .joined place;
+        inside = o .valid .fits .joined place;
         acknowledged-fits = none-yet;
         some = some-outstanding;
         below = λ q e. member-below 64 (row .joined) q (parts .joined-below) (left-parts 64 (row .joined) (row .acknowledged) (parts .joined-below) none-yet q e .0);

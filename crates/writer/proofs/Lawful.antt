@@ -81,6 +81,7 @@ pub record ComesNext (s : Coordinator) (place : ℕ) (row : Row) : Type 0 where
   pub comes : mayCome (unacknowledged (s .table)) (recordOf row) ≡ true
   pub none-acknowledged : row .acknowledged ≡ 0
 
+-- what an action of a call may be: neither the clock nor the flushed length falls, and what is appended comes next
 abbrev pub Lawful : Coordinator → Action → Type 0
 Lawful s keep = Unit {0}
 Lawful s (advance clock) = (s .clock ≤ clock) × (clock < 2 ^ 63)

@@ -5,6 +5,7 @@ pub mod Written
 mod OpeningAnswers
 pub mod Reopening
 pub mod Reached
+mod Reopened
 mod Appends
 mod ClockCall
 mod Acks
