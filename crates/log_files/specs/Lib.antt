@@ -1,0 +1,3 @@
+-- Definitions of the crate log_files.
+pub mod Limits
+pub mod Load

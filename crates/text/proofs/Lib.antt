@@ -1,0 +1,4 @@
+-- Laws of the crate text: the public modules are for callers, the other for the functions' own proofs.
+pub mod Decimal
+pub mod Lines
+mod Spelling

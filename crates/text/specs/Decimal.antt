@@ -1,0 +1,25 @@
+-- Numbers as shortest decimals.
+use Prim.Native.Nat.{ℕ, zero, suc, _+_, _/_, _%_}
+use Prim.Native.Char.{code}
+use mathlib.Core.Bool.{cond}
+use mathlib.Core.List.{List, [], _∷_, _++_}
+use lib.Dec.{ltb}
+use lib.IntN.{ℤ, pos, negsuc}
+
+-- the character of a digit
+abbrev pub digit : ℕ → ℕ
+digit n = code "0" + n
+
+-- a number below ten is its digit, any other is its last digit behind the decimal of the rest; k is no less than the digits of the rest
+unfoldable pub decimalWithin : ℕ → ℕ → List ℕ
+decimalWithin zero n = digit n ∷ []
+decimalWithin (suc k) n = cond (ltb n 10) (digit n ∷ []) (decimalWithin k (n / 10) ++ (digit (n % 10) ∷ []))
+
+-- the shortest decimal of a number
+unfoldable pub decimal : ℕ → List ℕ
+decimal n = decimalWithin n n
+
+-- the shortest decimal of an integer, with a sign if it is negative
+unfoldable pub signedDecimal : ℤ → List ℕ
+signedDecimal (pos n) = decimal n
+signedDecimal (negsuc n) = code "-" ∷ decimal (suc n)
