@@ -1,5 +1,5 @@
 -- Numbers as shortest decimals.
-use Prim.Native.Nat.{ℕ, zero, suc, _+_, _/_, _%_}
+use Prim.Native.Nat.{ℕ, zero, suc, _+_, _-_, _*_, _/_, _%_}
 use Prim.Native.Char.{code}
 use mathlib.Core.Bool.{cond}
 use mathlib.Core.List.{List, [], _∷_, _++_}
@@ -18,6 +18,15 @@ decimalWithin (suc k) n = cond (ltb n 10) (digit n ∷ []) (decimalWithin k (n /
 -- the shortest decimal of a number
 unfoldable pub decimal : ℕ → List ℕ
 decimal n = decimalWithin n n
+
+-- the number that starts with a and goes on with these digits
+unfoldable pub valueFrom : ℕ → List ℕ → ℕ
+valueFrom a [] = a
+valueFrom a (c ∷ cs) = valueFrom (a * 10 + (c - code "0")) cs
+
+-- the number that digits write
+abbrev pub valueOf : List ℕ → ℕ
+valueOf cs = valueFrom 0 cs
 
 -- the shortest decimal of an integer, with a sign if it is negative
 unfoldable pub signedDecimal : ℤ → List ℕ
