@@ -10,7 +10,7 @@ use lib.IntN.{ℤ, pos, negsuc}
 abbrev pub digit : ℕ → ℕ
 digit n = code "0" + n
 
--- a number below ten is its digit, any other is its last digit behind the decimal of the rest; k is no less than the digits of the rest
+-- a number below ten is its digit, any other is its last digit behind the decimal of the rest; k is at least the number of digits of the rest
 unfoldable pub decimalWithin : ℕ → ℕ → List ℕ
 decimalWithin zero n = digit n ∷ []
 decimalWithin (suc k) n = cond (ltb n 10) (digit n ∷ []) (decimalWithin k (n / 10) ++ (digit (n % 10) ∷ []))
