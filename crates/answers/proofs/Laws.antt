@@ -5,7 +5,7 @@ use mathlib.Core.Bool.{Bool, true, false, cond, _||_, true≢false}
 use mathlib.Core.List.{List, [], _∷_, _++_}
 use lib.Dec.{eqb}
 use borrow.Author.Tests.{eqb-true, eqb-false, eq-eqb, ne-eqb}
-use Rattle.answers.specs.Refusals.{Test, refuse, firstRefusal, numbersOf, among, Decision, unless}
+use Rattle.answers.specs.Refusals.{Test, refuse, firstRefusal, orRefuse, numbersOf, among, Decision, unless}
 
 -- ---- the first test that applies
 
@@ -51,6 +51,35 @@ unfolding firstRefusal numbersOf among
 first-append [] behind h = refl
 first-append (refuse number true ∷ tests) behind h = rw (ne-eqb number 0 (λ z. eqb-false 0 number (or-false-left _ _ h) (sym z)))
 first-append (refuse number false ∷ tests) behind h = first-append tests behind (or-false-right (eqb 0 number) _ h)
+
+-- ---- the first refusal, test by test
+
+-- of tests behind others, by the first refusal of those
+unfoldable pub refusalAfter : ℕ → List Test → ℕ
+refusalAfter before tests = cond (eqb before 0) (firstRefusal tests) before
+
+pub after-none : (tests : List Test) → firstRefusal tests ≡ refusalAfter 0 tests
+unfolding refusalAfter
+after-none tests = refl
+
+pub after-next : (before number : ℕ) (applies : Bool) (tests : List Test) {r : ℕ} {a : Bool} → eqb number 0 ≡ false → a ≡ applies → r ≡ orRefuse before number a
+    → refusalAfter before (refuse number applies ∷ tests) ≡ refusalAfter r tests
+unfolding refusalAfter firstRefusal orRefuse
+after-next before number applies tests {r} {a} h e q = rw (q, e) (go (eqb before 0) refl applies)
+  where
+    go : (b : Bool) → eqb before 0 ≡ b → (t : Bool)
+        → cond b (cond t number (firstRefusal tests)) before ≡ cond (eqb (cond b (cond t number 0) before) 0) (firstRefusal tests) (cond b (cond t number 0) before)
+    go true z true = rw h
+    go true z false = refl
+    go false z t = rw z
+
+pub after-all : (r : ℕ) → refusalAfter r [] ≡ r
+unfolding refusalAfter firstRefusal
+after-all r = go (eqb r 0) refl
+  where
+    go : (b : Bool) → eqb r 0 ≡ b → cond b 0 r ≡ r
+    go true z = sym (eqb-true r 0 z)
+    go false z = refl
 
 -- ---- which numbers there can be
 

@@ -14,6 +14,10 @@ unfoldable pub firstRefusal : List Test → ℕ
 firstRefusal [] = 0
 firstRefusal (refuse number applies ∷ tests) = cond applies number (firstRefusal tests)
 
+-- the first refusal of some tests and one more, by that of those before it
+unfoldable pub orRefuse : ℕ → ℕ → Bool → ℕ
+orRefuse before number applies = cond (eqb before 0) (cond applies number 0) before
+
 -- the numbers of a list of tests, in order
 unfoldable pub numbersOf : List Test → List ℕ
 numbersOf [] = []

@@ -1,4 +1,6 @@
-// The answers of the calls, as document 01 has them: done with its results, or refused with a number; and how many places an answer can name.
+// The answers of the calls, as document 01 has them: done with its results, or refused with a number; and how many places an answer can name; the first refusal of tests in order.
+ghost use mathlib.Core.Path.{_≡_};
+ghost use Rattle.answers.specs.Refusals.{orRefuse};
 
 // The limit of specs/Limits.antt, under the same name.
 pub const PLACES: usize = 32;
@@ -46,4 +48,14 @@ pub enum ProduceAnswer {
 pub enum ReadAnswer {
     Copied(usize, usize),
     Refused(u8),
+}
+
+// The first refusal with one test more: that of the tests before it, else its own number where it applies, and 0 where none does.
+pub fn or_refuse(earlier: u8, number: u8, applies: bool) -> u8
+    ensures { λ r. ⌜ r ≡ orRefuse earlier number applies ⌝ }
+{
+    if earlier != 0 {
+        return earlier;
+    }
+    if applies { number } else { 0 }
 }

@@ -56,7 +56,7 @@ module _ (s : Coordinator) (n place : ℕ) (pid epoch : ℤ) (position : ℕ) wh
   -- ---- what it answers and does
 
   module _ (e : firstRefusal (ackTests s n place pid epoch position) ≡ 0) where
-    ack-accepted : ack s n place pid epoch position ≡ record { answer = Done; action = ackAction s place position (rowAt (s .table) place) }
+    pub ack-accepted : ack s n place pid epoch position ≡ record { answer = Done; action = ackAction s place position (rowAt (s .table) place) }
     unfolding ack
     ack-accepted = unless-accepted _ Refused keep _ e
 

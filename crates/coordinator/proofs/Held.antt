@@ -1,13 +1,17 @@
 -- A call by name: what refusal 10 leaves of it, the row that holds the name, and the place of a transaction that has begun.
-use mathlib.Core.Path.{_≡_, refl}
-use mathlib.Core.Bool.{true, false, not}
+use mathlib.Core.Path.{_≡_, refl, ap, _∙_}
+use mathlib.Core.Bool.{Bool, true, false, not}
 use mathlib.Core.List.{List}
 use Prim.Native.Nat.{ℕ}
 use native.Mathlib.Omega.{arith}
 use lib.Dec.{eqb}
 use lib.IntN.{ℤ, pos}
 use lib.ListN.{length, getD}
+use mir.Syntax.{Width}
+use mir.Val.{SFits, toZ, ofZ}
+use mir.Facts.{toZ-ofZ}
 use borrow.Author.Tests.{ne-eqb, lt-ltb, ltb-true, not-false}
+use Rattle.numbers.specs.Border.{eqZ}
 use Rattle.numbers.specs.Padded.{padded}
 use Rattle.numbers.proofs.Border.{eqZ-true, eqZ-is}
 use Rattle.record.specs.Limits.{nameMax}
@@ -21,6 +25,14 @@ use Rattle.table.proofs.Laws.{place-found}
 use Rattle.table.proofs.Reserve.{needs-begin, needs-place}
 use Rattle.coordinator.specs.Coordinator.{placeOfName, rowOf, holdsName, notHeld}
 use Rattle.coordinator.specs.declared.Coordinator.{Coordinator}
+
+-- a signed number that the code passes on is compared as it is
+pub compared : (w : Width) (z : ℤ) (n : ℕ) {b : Bool} → SFits w z → b ≡ eqZ (toZ w (ofZ w z)) (pos n) → b ≡ eqZ z (pos n)
+compared w z n f e = rw (toZ-ofZ f) at e
+
+-- and so is one that it widens first
+pub compared-wide : (w v : Width) (z : ℤ) (n : ℕ) {y : ℤ} {b : Bool} → SFits w z → SFits v y → y ≡ toZ w (ofZ w z) → b ≡ eqZ (toZ v (ofZ v y)) (pos n) → b ≡ eqZ z (pos n)
+compared-wide w v z n f g q e = compared v _ n g e ∙ ap (λ (x : ℤ). eqZ x (pos n)) (q ∙ toZ-ofZ f)
 
 module _ (s : Coordinator) (name : List ℕ) (pid : ℤ) (h : notHeld s name pid ≡ false) where
   pub name-held : holdsName s name ≡ true

@@ -17,14 +17,14 @@ use Rattle.coordinator.specs.Coordinator.{admits, unflushed, Action, kee
 use Rattle.coordinator.specs.declared.Coordinator.{Coordinator}
 
 -- the tests of the row of the place
-unfoldable pub ackRowTests : Coordinator → Row → ℤ → ℤ → ℕ → List Test
-ackRowTests s row pid epoch position =
+unfoldable pub ackRowTests : ℕ → Row → ℤ → ℤ → ℕ → List Test
+ackRowTests flushed row pid epoch position =
     -- "10 … (Ack: place or pid)"
     refuse 10 (free row || not (eqZ pid (pos (row .pid)))) ∷
     -- "11 epoch differs"
     refuse 11 (not (eqZ epoch (pos (row .epoch)))) ∷
     -- "12 not flushed"
-    refuse 12 (unflushed (s .flushed) row) ∷
+    refuse 12 (unflushed flushed row) ∷
     -- "status other than 2, 3 is 13"
     refuse 13 (not (isPrepare (row .status))) ∷
     -- "18 position not joined"
@@ -36,7 +36,7 @@ ackTests s n place pid epoch position =
     refuse 8 (not (admits s n)) ∷
     -- "3 … or such a position"
     refuse 3 (not (member (s .catalogue .all) position)) ∷
-    ackRowTests s (rowAt (s .table) place) pid epoch position
+    ackRowTests (s .flushed) (rowAt (s .table) place) pid epoch position
 
 -- "the last one outstanding": no other is left
 abbrev pub lastOutstanding : Row → Bool

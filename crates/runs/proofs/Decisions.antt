@@ -4,7 +4,7 @@ use Rattle.partition.specs.Partition.{Action as PartitionAction}
 use Rattle.partition.specs.declared.Partition.{Partition}
 use Rattle.partition.proofs.Fits.{Fits, marker-fits}
 use Rattle.partition.proofs.Reserve.{Reserved as PartitionReserved, Keeps, marker-keeps}
-use Rattle.server.proofs.Produce.{produce-fits}
+use Rattle.server.proofs.ProduceCases.{produce-fits}
 use Rattle.server.proofs.Admitted.{produce-keeps}
 use Rattle.runs.proofs.Changes.{Led, byProduce, byMarker}
 

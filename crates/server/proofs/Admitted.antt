@@ -42,7 +42,7 @@ use Rattle.server.specs.Lines.{afterAll}
 use Rattle.server.specs.Demand1.{refusalsOf}
 use Rattle.server.specs.Admitted.{openedWith, Next, call, lend, afterEach, Admits, Admitted}
 use Rattle.server.proofs.Demand1.{init-done, tick-done, read-number, demand-1}
-use Rattle.server.proofs.Produce.{produce-passed}
+use Rattle.server.proofs.ProduceCases.{produce-passed}
 
 pub produce-keeps : (s : Coordinator) (p : Partition) (n : ℕ) (name : List ℕ) (pid epoch : ℤ) (position : ℕ) (sequence : ℤ) (payload : ℕ) → PartitionReserved p
     → Keeps p (produce s p n name pid epoch position sequence payload .action)

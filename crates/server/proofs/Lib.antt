@@ -1,5 +1,6 @@
 -- Laws of the crate server.
-pub mod Produce
+pub mod ProduceCases
 pub mod Lines
 pub mod Demand1
 pub mod Admitted
+mod Made

@@ -1,0 +1,2 @@
+-- Laws of the crate completion, for the proofs of its functions.
+mod Made

@@ -1,0 +1,100 @@
+-- `transactions::add_refusal` meets its contract.
+use mathlib.Core.Bool.{not, _||_}
+use lib.IntN.{ℤ, pos}
+use Rattle.numbers.specs.Border.{eqZ}
+use Rattle.row.specs.Limits.{epochMax}
+use Rattle.transactions.specs.Parts.{notHeldAt, addFull}
+use Rattle.transactions.proofs.Made.{passed-on}
+use Rattle.transactions.proofs.AddMade.{add-named, add-tested}
+use borrow.Author.Needs.{needs}
+use Rattle.transactions.proofs.add_refusal.Statement.{statement}
+use Rattle.transactions.proofs.add_refusal.Tie as tie
+
+name-refusal-requires : tie.Need-name-refusal-requires
+name-refusal-requires c κs = search needs
+
+returns : tie.Need-returns
+returns c =
+    let a = c .before .before .before .args in
+    add-named (a .s) (a .n) (a .name .now) (a .pid) (a .epoch) (a .set) (a .time) (c .before .name-refusal .ensures) (c .if1 .taken)
+
+row-at-requires : tie.Need-row-at-requires
+row-at-requires c κs = search needs
+
+subset-requires : tie.Need-subset-requires
+subset-requires c κs = search needs
+
+or-refuse-requires : tie.Need-or-refuse-requires
+or-refuse-requires c κs = search needs
+
+not-held-requires : tie.Need-not-held-requires
+not-held-requires c κs = search needs
+
+or-refuse-requires-2 : tie.Need-or-refuse-requires-2
+or-refuse-requires-2 c κs = search needs
+
+add-epoch-refused-requires : tie.Need-add-epoch-refused-requires
+add-epoch-refused-requires c κs = search needs
+
+or-refuse-requires-3 : tie.Need-or-refuse-requires-3
+or-refuse-requires-3 c κs = search needs
+
+or-refuse-requires-4 : tie.Need-or-refuse-requires-4
+or-refuse-requires-4 c κs = search needs
+
+is-prepare-requires : tie.Need-is-prepare-requires
+is-prepare-requires c κs = search needs
+
+or-refuse-requires-5 : tie.Need-or-refuse-requires-5
+or-refuse-requires-5 c κs = search needs
+
+add-full-requires : tie.Need-add-full-requires
+add-full-requires c κs = search needs
+
+or-refuse-requires-6 : tie.Need-or-refuse-requires-6
+or-refuse-requires-6 c κs = search needs
+
+returns-2 : tie.Need-returns-2
+returns-2 c =
+    let f = c .before in
+    let o5 = f .before in
+    let p = o5 .before in
+    let o4 = p .before in
+    let o3 = o4 .before .before .before in
+    let e = o3 .before in
+    let o2 = e .before in
+    let h = o2 .before in
+    let o1 = h .before in
+    let l = o1 .before in
+    let r = l .before in
+    let x = r .before .before .before in
+    let n = x .before in
+    let s = n .before .before in
+    let a = s .args in
+    add-tested (a .s) (a .n) (a .name .now) (a .pid) (a .epoch) (a .set) (a .time) (n .name-refusal .ensures) (x .if1 .left) (s .pre) (r .row-at .ensures)
+    (l .subset .ensures) (o1 .or-refuse .ensures)
+    (passed-on (notHeldAt (a .place) (r .row-at .result)) (s .fits .pid) (h .not-held .ensures)) (o2 .or-refuse2 .ensures)
+    (passed-on (λ (z : ℤ). not (eqZ z (pos (r .row-at .result .epoch))) || eqZ z (pos epochMax)) (s .fits .epoch) (e .add-epoch-refused .ensures)) (o3 .or-refuse3 .ensures)
+    (o4 .or-refuse4 .ensures)
+    (p .is-prepare .ensures) (o5 .or-refuse5 .ensures)
+    (passed-on (addFull (a .s) (r .row-at .result) (a .set)) (s .fits .time) (f .add-full .ensures)) (c .or-refuse6 .ensures)
+
+pub add-refusal-spec : {M : Type 1} → statement M
+add-refusal-spec =
+    tie.close
+    (tie.spec
+    name-refusal-requires
+    returns
+    row-at-requires
+    subset-requires
+    or-refuse-requires
+    not-held-requires
+    or-refuse-requires-2
+    add-epoch-refused-requires
+    or-refuse-requires-3
+    or-refuse-requires-4
+    is-prepare-requires
+    or-refuse-requires-5
+    add-full-requires
+    or-refuse-requires-6
+    returns-2)

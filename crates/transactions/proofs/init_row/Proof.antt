@@ -1,0 +1,32 @@
+-- `transactions::init_row` meets its contract.
+use Rattle.transactions.proofs.Made.{clock-is}
+use Rattle.transactions.proofs.InitMade.{init-row-is}
+use borrow.Author.Needs.{needs}
+use Rattle.transactions.proofs.init_row.Statement.{statement}
+use Rattle.transactions.proofs.init_row.Tie as tie
+
+row-at-requires : tie.Need-row-at-requires
+row-at-requires c κs = search needs
+
+later-requires : tie.Need-later-requires
+later-requires c κs = search needs
+
+new-pid-requires : tie.Need-new-pid-requires
+new-pid-requires c κs = search needs
+
+init-row-with-requires : tie.Need-init-row-with-requires
+init-row-with-requires c κs = search needs
+
+returns : tie.Need-returns
+returns c =
+    let p = c .before in
+    let l = p .before in
+    let r = l .before in
+    let s = r .before .before in
+    let a = s .args in
+    init-row-is (a .s) (a .name) (a .place) (a .timeout) (a .time) (s .fits .timeout) (r .row-at .ensures) (clock-is (a .s) (s .fits .time) (l .later .ensures)) (p .new-pid .ensures) (c .init-row-with .ensures)
+
+pub init-row-spec : {M : Type 1} → statement M
+init-row-spec =
+    tie.close
+    (tie.spec row-at-requires later-requires new-pid-requires init-row-with-requires returns)

@@ -1,0 +1,19 @@
+-- `transactions::place_for` meets its contract.
+use native.Mathlib.Omega.{arith}
+use borrow.Author.Tests.{lt-ltb, le-ltb}
+use Rattle.answers.specs.Limits.{places}
+use borrow.Author.Needs.{needs}
+use Rattle.transactions.proofs.place_for.Statement.{statement}
+use Rattle.transactions.proofs.place_for.Tie as tie
+
+returns : tie.Need-returns
+returns c = rw (lt-ltb (c .before .args .place) places (omega arith))
+
+lowest-free-requires : tie.Need-lowest-free-requires
+lowest-free-requires c κs = search needs
+
+returns-2 : tie.Need-returns-2
+returns-2 c = rw (le-ltb (c .before .before .args .place) places (omega arith)) (c .lowest-free .ensures)
+
+pub place-for-spec : {M : Type 1} → statement M
+place-for-spec = tie.close (tie.spec returns lowest-free-requires returns-2)

@@ -1,0 +1,2 @@
+-- Definitions of the crate transactions.
+pub mod Parts
