@@ -1,0 +1,157 @@
+-- The theorem of demand 3, and the exact count of carried orders behind its last sentence.
+use Prim.Native.Nat.{ℕ, _+_, _-_, _≤_, _<_, _^_}
+use mathlib.Core.Path.{_≡_, refl, sym, ap, subst, _∙_}
+use mathlib.Core.Bool.{true, false, not, _&&_, true≢false}
+use mathlib.Core.List.{List, [], _∷_}
+use mathlib.Core.Option.{none, some}
+use native.Mathlib.Omega.{arith}
+use lib.Bits.{and-le-l}
+use lib.ListN.{length}
+use borrow.Author.Tests.{leb-true}
+use Rattle.numbers.proofs.Tests.{not-both, and-left, and-right}
+use Rattle.bits.specs.Bits.{count}
+use Rattle.bits.proofs.Laws.{count-zero}
+use Rattle.catalogue.specs.Catalogue.{parse}
+use Rattle.record.specs.Record.{idle}
+use Rattle.record.proofs.Bounds.{some-joined, well-formed-parts}
+use Rattle.row.specs.Row.{isPrepare, outstanding}
+use Rattle.row.specs.declared.Row.{Row}
+use Rattle.search.specs.Search.{Each, found}
+use Rattle.table.specs.Table.{rowAt, placeOf}
+use Rattle.runs.specs.History.{History, Logged, recordsOf, latestOf, nextOf, flushedOf, isFlushed, isFlushedPrepare, flushedPrepares, listed, isCompleted, carriedFor}
+use Rattle.runs.specs.World.{Phase, up, down, World, catalogueOf, start, Item, cut, reopen, step, run}
+use Rattle.runs.specs.Demand3.{Kept, Undisturbed, CompletesInTime, Promised, Demand3}
+use Rattle.runs.proofs.Admitted.{step-own}
+use Rattle.restart.specs.Told.{Told}
+use Rattle.restart.proofs.Lists.{In, in-each, each-filter, either}
+use Rattle.restart.proofs.Records.{come-record, latest-last}
+use Rattle.restart.proofs.Telling.{prepare-idle}
+use Rattle.restart.proofs.Grown.{Firm, firm-grown, flushed-firm, kept-stands, kept-next, told-grown}
+use Rattle.restart.proofs.Invariant.{Invariant}
+use Rattle.restart.proofs.Live.{live-latest}
+use Rattle.restart.proofs.Good.{log-of, acks-of}
+use Rattle.restart.proofs.Steps.{step-good, Reached, run-reached, always}
+use Rattle.restart.proofs.Holds.{holds-at, pending-latest}
+use Rattle.restart.proofs.Tally.{count-part, leftOf, Tally, over, waits}
+use Rattle.restart.proofs.Counted.{step-counts}
+
+-- ---- kept
+
+kept : (w : World) → Invariant w → (items : List Item) → Each (Kept (run items w)) (flushedPrepares (w .history))
+kept w i items =
+    let r = run-reached items w i in
+    let c = catalogueOf w in
+    let t : Told c (run items w .history) = told-grown c (w .history) (i .told) (r .grown) in
+    flushed-firm (w .history) (Kept (run items w))
+    (λ p f prepares.
+    let g = firm-grown c (w .history) (i .told) p f (r .grown) in
+    record { stands = kept-stands c (run items w .history) t p (g .stands); next = kept-next c (run items w .history) t p (g .stands) prepares })
+
+-- ---- the count of carried orders
+
+run-counts : (all : ℕ) (p : Logged) → isPrepare (p .content .status) ≡ true → (n : ℕ) (items : List Item) (w : World) → all ≡ catalogueOf w .all → Invariant w → Firm (w .history) p → Tally p n (w .phase) (w .history)
+    → Each (Undisturbed all) items → Tally p n (run items w .phase) (run items w .history)
+unfolding run
+run-counts all p prepares n [] w e i f t d = t
+run-counts all p prepares n (x ∷ items) w e i f t (d, ds) =
+    let g = step-good w i x in
+    let j = g .holds (step-own x w (i .own)) in
+    run-counts all p prepares n items (step x w) (e ∙ ap (λ (y : List ℕ). parse y .catalogue .all) (sym (g .same-text))) j
+    (firm-grown (catalogueOf w) (w .history) (i .told) p f (g .grown)) (step-counts p prepares n w i (f .stands) t x (subst (λ (a : ℕ). Undisturbed a x) e d) j) ds
+
+module _ (w : World) (i : Invariant w) (p : Logged) (there : In p (recordsOf (w .history))) (pending : (isFlushedPrepare (w .history) p && not (isCompleted (w .history) p)) ≡ true) (items : List Item)
+    (undisturbed : Each (Undisturbed (catalogueOf w .all)) items) where
+  abbrev h : History
+  h = w .history
+
+  abbrev v : History
+  v = run items w .history
+
+  prepares : isPrepare (p .content .status) ≡ true
+  prepares = and-left (isPrepare (p .content .status)) (isFlushed h p) (and-left (isFlushedPrepare h p) (not (isCompleted h p)) pending)
+
+  firm : Firm h p
+  firm = record { stands = there; flushed = leb-true (p .end) (flushedOf h) (and-right (isPrepare (p .content .status)) (isFlushed h p) (and-left (isFlushedPrepare h p) (not (isCompleted h p)) pending)) }
+
+  tally : Tally p (carriedFor p h + leftOf p (w .phase)) (run items w .phase) v
+  tally = run-counts (catalogueOf w .all) p prepares (carriedFor p h + leftOf p (w .phase)) items w refl i firm (waits (pending-latest w i p there pending) refl) undisturbed
+
+  after : Reached w (run items w)
+  after = run-reached items w i
+
+  small : p .content .joined < 2 ^ 64
+  small = well-formed-parts (catalogueOf w) (p .content) (come-record (catalogueOf w) (recordsOf h) (i .told .come) p there .0) .joined-below
+
+  joins-some : 0 < p .content .joined
+  joins-some =
+      let busy : idle (p .content .status) ≡ false = either (idle (p .content .status)) (λ e. absurd (prepare-idle (p .content .status) prepares e)) (λ e. e) in
+      some-joined (p .content .status) (p .content .joined) busy (well-formed-parts (catalogueOf w) (p .content) (come-record (catalogueOf w) (recordsOf h) (i .told .come) p there .0) .joined-status)
+
+  -- while it is not completed some partition is left
+  some-left : latestOf (p .content .name) v ≡ some p → 1 ≤ leftOf p (run items w .phase)
+  some-left e = go (run items w .phase) refl
+    where
+      go : (y : Phase) → run items w .phase ≡ y → 1 ≤ leftOf p y
+      go (up s) u =
+          let z = run items w in
+          let j = after .invariant in
+          let k = placeOf (s .table) (p .content .name) in
+          let row-is = live-latest (catalogueOf z) (z .log) s (z .history) (log-of z j s u) (j .told) (p .content .name) p e in
+          let row-small : outstanding (rowAt (s .table) k) < 2 ^ 64 = let b = and-le-l (rowAt (s .table) k .joined) ((2 ^ 64 - 1) - rowAt (s .table) k .acknowledged) in omega (arith, ap (λ (r : Row). r .joined) row-is, small) in
+          let n : count (outstanding (rowAt (s .table) k)) ≡ 0 → ⊥ = λ q. acks-of z j s u .waiting k (ap (λ (r : Row). isPrepare (r .status)) row-is ∙ prepares) (count-zero 64 (outstanding (rowAt (s .table) k)) row-small q) in
+          omega arith
+      go (down m before) u = let n : count (p .content .joined) ≡ 0 → ⊥ = λ q. let z = count-zero 64 (p .content .joined) small q in omega (arith, joins-some) in omega arith
+
+  -- at most as many as it lists
+  left-most : leftOf p (w .phase) ≤ listed p
+  left-most = go (w .phase) refl
+    where
+      go : (y : Phase) → w .phase ≡ y → leftOf p y ≤ listed p
+      go (up s) u =
+          let k = placeOf (s .table) (p .content .name) in
+          let row-is = live-latest (catalogueOf w) (w .log) s h (log-of w i s u) (i .told) (p .content .name) p (pending-latest w i p there pending) in
+          let joined : rowAt (s .table) k .joined ≡ p .content .joined = ap (λ (r : Row). r .joined) row-is in
+          let b = count-part 64 (rowAt (s .table) k .joined) ((2 ^ 64 - 1) - rowAt (s .table) k .acknowledged) (omega (arith, small)) in
+          omega (arith, ap count joined)
+      go (down m before) u = omega arith
+
+  latest-open : latestOf (p .content .name) v ≡ some p → isCompleted v p ≡ true → ⊥
+  latest-open e q =
+      let z : nextOf p v ≡ none = latest-last p (length v) (recordsOf v) (after .invariant .told .numbered) e in
+      let f : found _ (nextOf p v) ≡ true = and-right (isPrepare (p .content .status)) _ q in
+      true≢false (sym (rw z at f))
+
+  -- it completes at the order that is the last of those it had left, and not before
+  pub record Exactly : Type 0 where
+    pub when-completed : isCompleted v p ≡ true → carriedFor p v ≡ carriedFor p h + leftOf p (w .phase)
+    pub until-then : isCompleted v p ≡ false → carriedFor p v < carriedFor p h + leftOf p (w .phase)
+
+  pub exactly : Exactly
+  exactly = go tally
+    where
+      go : Tally p (carriedFor p h + leftOf p (w .phase)) (run items w .phase) v → Exactly
+      go (over e f) = record { when-completed = λ q. f; until-then = λ q. not-both q e }
+      go (waits e f) = record { when-completed = λ q. absurd (latest-open e q); until-then = λ q. let b = some-left e in omega arith }
+
+  in-time : carriedFor p h + listed p ≤ carriedFor p v → isCompleted v p ≡ true
+  in-time b = go tally
+    where
+      go : Tally p (carriedFor p h + leftOf p (w .phase)) (run items w .phase) v → isCompleted v p ≡ true
+      go (over e f) = e
+      go (waits e f) = absurd (let a = some-left e in let m = left-most in omega arith)
+
+completes-in-time : (w : World) → Invariant w → (items : List Item) → CompletesInTime w items
+completes-in-time w i items undisturbed =
+    each-filter _ (λ (p : Logged). isFlushedPrepare (w .history) p && not (isCompleted (w .history) p)) (recordsOf (w .history))
+    (in-each _ (recordsOf (w .history)) (λ p there pending. in-time w i p there pending items undisturbed))
+
+-- ---- the theorem
+
+promised : (w : World) → Invariant w → (items : List Item) → Promised w items
+promised w i items =
+    record { kept = kept w i items; holds = holds-at (run items w) (run-reached items w i .invariant); completes-in-time = completes-in-time w i items }
+
+pub demand-3 : Demand3
+demand-3 o accepted shared straight left epoch first last afterwards =
+    let i = always o accepted shared in
+    (promised (run shared (start o)) i straight, promised (run shared (start o)) i (cut left ∷ reopen epoch first last ∷ afterwards))

@@ -1,0 +1,117 @@
+-- Rule 12 for the calls by producers and the clock: what they append follows a record that is flushed and no prepare.
+use Prim.Native.Nat.{ℕ}
+use mathlib.Core.Path.{_≡_, refl, sym, ap, _∙_}
+use mathlib.Core.Bool.{true, false}
+use mathlib.Core.List.{List}
+use lib.Dec.{ltb}
+use lib.IntN.{ℤ}
+use lib.ListN.{getD}
+use borrow.Author.Tests.{eqb-false, ltb-true}
+use Rattle.numbers.proofs.Tests.{by-cases}
+use Rattle.record.specs.declared.Status.{Status}
+use Rattle.row.specs.Row.{free, isBegin, isPrepare}
+use Rattle.row.specs.declared.Row.{Row}
+use Rattle.row.proofs.Laws.{begin-busy, is-begin}
+use Rattle.answers.specs.Limits.{places}
+use Rattle.answers.specs.Refusals.{firstRefusal, Decision}
+use Rattle.answers.specs.declared.Answer.the-variants.{Refused}
+use Rattle.answers.specs.declared.InitAnswer.{InitAnswer}
+use Rattle.answers.specs.declared.InitAnswer.the-variants.{Refused as InitRefused}
+use Rattle.answers.specs.declared.TickAnswer.{TickAnswer}
+use Rattle.answers.specs.declared.TickAnswer.the-variants.{Refused as TickRefused}
+use Rattle.answers.proofs.Laws.{unless-does}
+use Rattle.table.specs.Table.{rowAt, placeOf}
+use Rattle.table.proofs.Reserve.{busy-held, Proper}
+use Rattle.table.proofs.Records.{place-own}
+use Rattle.table.proofs.Unacknowledged.{unacknowledged, plain-row, plain-place, plain-proper}
+use Rattle.coordinator.specs.Coordinator.{rowOf, placeOfName, holdsName, unflushed, clockAt, Action, keep, advance, append, acknowledge, flushTo}
+use Rattle.coordinator.specs.Init.{initRow, initTests, initAccepted, init, needsPid}
+use Rattle.coordinator.specs.Add.{allJoined, addRow, addTests, addAction, add}
+use Rattle.coordinator.specs.End.{endTests, endAction, end}
+use Rattle.coordinator.specs.Tick.{overduePlace, tickTests, tickAccepted, tick}
+use Rattle.coordinator.specs.declared.Coordinator.{Coordinator}
+use Rattle.coordinator.proofs.Held.{held-row}
+use Rattle.coordinator.proofs.InitCases.{init-passed}
+use Rattle.coordinator.proofs.AddCases.{add-passed}
+use Rattle.coordinator.proofs.EndCases.{end-passed}
+use Rattle.coordinator.proofs.TickCases.{overdue-found}
+use Rattle.writer.specs.LogCalls.{LogCall, callInit, callAdd, callEnd, callTick, actionOf}
+use Rattle.writer.proofs.Lawful.{Ready}
+
+-- what a name's row must be for a record of it to be appended
+pub record Follows (s : Coordinator) (name : List ℕ) : Type 0 where
+  pub flushed : unflushed (s .flushed) (rowAt (s .table) (placeOf (s .table) name)) ≡ false
+  pub unprepared : isPrepare (rowAt (s .table) (placeOf (s .table) name) .status) ≡ false
+
+abbrev pub Settled : Coordinator → Action → Type 0
+Settled s keep = Unit {0}
+Settled s (advance clock) = Unit {0}
+Settled s (append place row) = Follows s (row .name)
+Settled s (acknowledge place position) = ⊥
+Settled s (flushTo n) = Unit {0}
+
+begin-prepare : (s : Status) → isBegin s ≡ true → isPrepare s ≡ false
+begin-prepare s b = ap isPrepare (is-begin s b)
+
+module _ (s : Coordinator) (r : Ready s) where
+  pub proper : Proper (s .table .rows)
+  proper = plain-proper (s .table) (r .valid .proper)
+
+  -- a name that stands at a place is found there
+  pub own-place : (k : ℕ) → free (rowAt (s .table) k) ≡ false → placeOf (s .table) (rowAt (s .table) k .name) ≡ k
+  own-place k f =
+      sym (plain-place (s .table) (rowAt (s .table) k .name))
+      ∙ place-own (unacknowledged (s .table)) (rowAt (s .table) k .name) (r .valid .proper .all) (r .valid .differ) k (λ z. eqb-false (getD (rowAt (s .table) k .name) 0 0) 0 f z) (ap (λ (row : Row). row .name) (plain-row (s .table) k))
+
+  -- over a row that is held
+  over : (k : ℕ) → free (rowAt (s .table) k) ≡ false → unflushed (s .flushed) (rowAt (s .table) k) ≡ false → isPrepare (rowAt (s .table) k .status) ≡ false → (name : List ℕ) → name ≡ rowAt (s .table) k .name
+      → Follows s name
+  over k f u p name e = let q : placeOf (s .table) name ≡ k = rw e (own-place k f) in record { flushed = rw q u; unprepared = rw q p }
+
+  begun-held : (k : ℕ) → isBegin (rowAt (s .table) k .status) ≡ true → free (rowAt (s .table) k) ≡ false
+  begun-held k b = busy-held (rowAt (s .table) k) (proper .each k) (begin-busy (rowAt (s .table) k .status) b)
+
+  init-settled : (n : ℕ) (name : List ℕ) (timeout time : ℤ) → Settled s (init s n name timeout time .action)
+  unfolding init initAccepted initRow
+  init-settled n name timeout time =
+      unless-does (firstRefusal (initTests s n name timeout time)) InitRefused keep (initAccepted s name timeout time) (Settled s) tt
+      (λ e.
+      let p = init-passed s n name timeout time e in
+      by-cases (λ (d : Decision InitAnswer Action). Settled s (d .action)) (isBegin (rowOf s name .status))
+      (λ b. over (placeOfName s name) (begun-held (placeOfName s name) b) (p .flushed) (p .unprepared) (rowOf s name .name) refl)
+      (λ b. by-cases (λ (row : Row). Follows s (row .name)) (needsPid (holdsName s name) (rowOf s name)) (λ q. record { flushed = p .flushed; unprepared = p .unprepared }) (λ q. record { flushed = p .flushed; unprepared = p .unprepared })))
+
+  add-settled : (n : ℕ) (name : List ℕ) (pid epoch : ℤ) (set : ℕ) (time : ℤ) → Settled s (add s n name pid epoch set time .action)
+  unfolding add addAction addRow
+  add-settled n name pid epoch set time =
+      unless-does (firstRefusal (addTests s n name pid epoch set time)) Refused keep _ (Settled s) tt
+      (λ e.
+      let p = add-passed s n name pid epoch set time e in
+      let f = held-row s (proper .all) name (p .named) (p .held) in
+      by-cases (Settled s) (allJoined (rowOf s name) set) (λ j. tt)
+      (λ j. by-cases (λ (row : Row). Follows s (row .name)) (isBegin (rowOf s name .status)) (λ b. over (placeOfName s name) f (p .flushed) (p .unprepared) (rowOf s name .name) refl) (λ b. over (placeOfName s name) f (p .flushed) (p .unprepared) (rowOf s name .name) refl)))
+
+  end-settled : (n : ℕ) (name : List ℕ) (pid epoch : ℤ) (verdict : ℕ) (time : ℤ) → Settled s (end s n name pid epoch verdict time .action)
+  unfolding end endAction
+  end-settled n name pid epoch verdict time =
+      unless-does (firstRefusal (endTests s n name pid epoch verdict)) Refused keep _ (Settled s) tt
+      (λ e.
+      let p = end-passed s n name pid epoch verdict time e in
+      by-cases (Settled s) (isBegin (rowOf s name .status)) (λ b. over (placeOfName s name) (begun-held (placeOfName s name) b) (p .flushed) (p .unprepared) (rowOf s name .name) refl) (λ b. tt))
+
+  tick-settled : (n : ℕ) (time : ℤ) → Settled s (tick s n time .action)
+  unfolding tick tickAccepted
+  tick-settled n time =
+      unless-does (firstRefusal (tickTests s n)) TickRefused keep (tickAccepted s time) (Settled s) tt
+      (λ e. by-cases (λ (d : Decision TickAnswer Action). Settled s (d .action)) (ltb place places)
+      (λ l. let o = overdue-found s (clockAt s time) (proper .all) (ltb-true place places l) in over place (begun-held place (o .begins)) (o .flushed) (begin-prepare (rowAt (s .table) place .status) (o .begins)) (rowAt (s .table) place .name) refl)
+      (λ l. tt))
+    where
+      place : ℕ
+      place = overduePlace s (clockAt s time)
+
+  pub call-settled : (n : ℕ) (c : LogCall) → Settled s (actionOf c s n)
+  call-settled n (callInit name timeout time) = init-settled n name timeout time
+  call-settled n (callAdd name pid epoch set time) = add-settled n name pid epoch set time
+  call-settled n (callEnd name pid epoch verdict time) = end-settled n name pid epoch verdict time
+  call-settled n (callTick time) = tick-settled n time
