@@ -8,3 +8,4 @@ pub mod Tick
 pub mod Flush
 pub mod Order
 pub mod Ack
+pub mod Calls

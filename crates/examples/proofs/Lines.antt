@@ -33,7 +33,8 @@ use Rattle.partition.specs.Marker.{markerTests, closed, markerAction, marker}
 use Rattle.partition.specs.Read.{nextMarker, committed, copy, readTests as readOffsetTests, readAnswer, readOut}
 use Rattle.partition.specs.Append.{lastSequence, nextSequence, produced, partitionFull}
 use Rattle.server.specs.Produce.{produceRowTests, produceTests, produce}
-use Rattle.server.specs.Calls.{Call, openLog, openWords, initCall, addCall, endCall, tickCall, flushCall, orderCall, ackCall, produceCall, markerCall, readCall}
+use Rattle.coordinator.specs.Calls.{initCall, addCall, endCall, tickCall, flushCall, ackCall}
+use Rattle.server.specs.Calls.{Call, openLog, openWords, call, orderCall, produceCall, markerCall, readCall}
 use Rattle.server.specs.Lines.{Line, outcome, afterAll}
 use Rattle.examples.specs.Starts.{emptyRecords, framesOf}
 use Rattle.examples.specs.FurtherLines.{furtherLines}
@@ -51,17 +52,17 @@ unfolding outcome afterAll ones laid same bigEndian integerBytes untilZero membe
 refusal-lines-hold = refl
 
 -- the table shows every refusal of every call, in the order of the call's tests
-pub every-refusal-shown : (call : Call) → refusalsShown call ≡ refusalsOf call
+pub every-refusal-shown : (c : Call) → refusalsShown c ≡ refusalsOf c
 unfolding numbersShown runsAfter
 every-refusal-shown (openLog text n epoch first last) = refl
 every-refusal-shown openWords = refl
-every-refusal-shown (initCall name timeout time) = refl
-every-refusal-shown (addCall name pid epoch set time) = refl
-every-refusal-shown (endCall name pid epoch verdict time) = refl
-every-refusal-shown (tickCall time) = refl
-every-refusal-shown (flushCall n) = refl
+every-refusal-shown (call (initCall name timeout time)) = refl
+every-refusal-shown (call (addCall name pid epoch set time)) = refl
+every-refusal-shown (call (endCall name pid epoch verdict time)) = refl
+every-refusal-shown (call (tickCall time)) = refl
+every-refusal-shown (call (flushCall n)) = refl
 every-refusal-shown (orderCall up) = refl
-every-refusal-shown (ackCall place pid epoch position) = refl
+every-refusal-shown (call (ackCall place pid epoch position)) = refl
 every-refusal-shown (produceCall name pid epoch position sequence payload) = refl
 every-refusal-shown (markerCall place pid epoch verdict coordinator) = refl
 every-refusal-shown (readCall from) = refl

@@ -4,7 +4,8 @@ use lib.IntN.{pos, negsuc}
 use lib.ListN.{replicate}
 use Rattle.record.specs.declared.Status.the-variants.{Empty, Begin, PrepareCommit, PrepareAbort, CompleteCommit, CompleteAbort}
 use Rattle.partition.specs.Partition.{noProducer}
-use Rattle.server.specs.Calls.{openLog, openWords, initCall, addCall, endCall, tickCall, flushCall, orderCall, ackCall, produceCall, markerCall, readCall}
+use Rattle.coordinator.specs.Calls.{initCall, addCall, endCall, tickCall, flushCall, ackCall}
+use Rattle.server.specs.Calls.{openLog, openWords, call, orderCall, produceCall, markerCall, readCall}
 use Rattle.server.specs.Lines.{Line, line, writes, reads, catalogueText, rig7, opened, init7, join, begins, put}
 use Rattle.examples.specs.Starts.{reopened, add7, end7, putAt, putNext, mark, ack7, holds7, prepares, completes, preparesTwo, lab3, init3, add3, end3, put3, mark3, holdsBoth, beginsBoth, preparesBoth, record7, recordFor, rigTable, closedProducer, openProducer, from, empty7, begin7, opens}
 
@@ -19,7 +20,7 @@ temptingLines =
     line 2560 8 (begins (pos 50) ++ (put ∷ end7 0 ∷ [])) (orderCall 257) 0 [] 1 0 ∷
     line 2560 8 (prepares 0) (orderCall 257) 0 (pos 0 ∷ pos 1000 ∷ pos 0 ∷ pos 0 ∷ pos 0 ∷ pos 1 ∷ []) 1 0 ∷
     -- "Aborting a recovered prepare because its timeout has passed."
-    line 2560 8 (prepares 0 ++ (reopened 187 ∷ [])) (tickCall (pos 100000)) 0 [] 1 0 ∷
+    line 2560 8 (prepares 0 ++ (reopened 187 ∷ [])) (call (tickCall (pos 100000))) 0 [] 1 0 ∷
     -- "Trusting acknowledgements from before a cut."
     line 2560 8 (prepares 0 ++ (mark 0 ∷ ack7 ∷ reopened 187 ∷ [])) (orderCall 257) 0 (pos 0 ∷ pos 1000 ∷ pos 0 ∷ pos 0 ∷ pos 0 ∷ pos 2 ∷ []) 1 0 ∷
     line 2560 8 (preparesTwo ++ (ack7 ∷ reopened 215 ∷ [])) (orderCall 257) 0 (pos 0 ∷ pos 1000 ∷ pos 0 ∷ pos 0 ∷ pos 0 ∷ pos 2 ∷ []) 1 0 ∷
@@ -47,13 +48,13 @@ openingLines =
     line 2560 0 (holds7 ++ (join ∷ reopened 120 ∷ [])) join 0 [] 1 0 ∷
     -- "the log's end and the flushed length are then the end of the last whole frame": a record that was not flushed before is flushed then
     line 2560 0 (opened ∷ init7 (pos 50) ∷ reopened 53 ∷ []) join 0 [] 1 67 ∷
-    line 2560 0 (holds7 ++ (join ∷ reopened 119 ∷ [])) (flushCall 53) 0 [] 1 0 ∷
+    line 2560 0 (holds7 ++ (join ∷ reopened 119 ∷ [])) (call (flushCall 53)) 0 [] 1 0 ∷
     -- "it starts at the greatest last update in the log": 151 of the second name makes the first overdue, unless it is cut off
-    line 2560 0 (begins (pos 50) ++ (initCall lab3 (pos 50) (pos 151) ∷ reopened 173 ∷ [])) (tickCall (pos 0)) 0 (pos 0 ∷ []) 2 67 ∷
-    line 2560 0 (begins (pos 50) ++ (initCall lab3 (pos 50) (pos 151) ∷ reopened 172 ∷ [])) (tickCall (pos 0)) 0 [] 1 0 ∷
+    line 2560 0 (begins (pos 50) ++ (call (initCall lab3 (pos 50) (pos 151)) ∷ reopened 173 ∷ [])) (call (tickCall (pos 0))) 0 (pos 0 ∷ []) 2 67 ∷
+    line 2560 0 (begins (pos 50) ++ (call (initCall lab3 (pos 50) (pos 151)) ∷ reopened 172 ∷ [])) (call (tickCall (pos 0))) 0 [] 1 0 ∷
     -- "or 0": with no record in the log a BEGIN at time 0 is as old as the clock
-    line 2560 0 (opened ∷ initCall rig7 (pos 50) (pos 0) ∷ flushCall 53 ∷ addCall rig7 (pos 1000) (pos 0) 1 (pos 0) ∷ flushCall 120 ∷ []) (tickCall (pos 50)) 0 [] 1 0 ∷
-    line 2560 0 (opened ∷ initCall rig7 (pos 50) (pos 0) ∷ flushCall 53 ∷ addCall rig7 (pos 1000) (pos 0) 1 (pos 0) ∷ flushCall 120 ∷ []) (tickCall (pos 51)) 0 (pos 0 ∷ []) 1 67 ∷
+    line 2560 0 (opened ∷ call (initCall rig7 (pos 50) (pos 0)) ∷ call (flushCall 53) ∷ call (addCall rig7 (pos 1000) (pos 0) 1 (pos 0)) ∷ call (flushCall 120) ∷ []) (call (tickCall (pos 50))) 0 [] 1 0 ∷
+    line 2560 0 (opened ∷ call (initCall rig7 (pos 50) (pos 0)) ∷ call (flushCall 53) ∷ call (addCall rig7 (pos 1000) (pos 0) 1 (pos 0)) ∷ call (flushCall 120) ∷ []) (call (tickCall (pos 51))) 0 (pos 0 ∷ []) 1 67 ∷
     -- "Places run from 0 by first appearance in the log.", though the second name was prepared first
     line 2560 0 (beginsBoth 256 ++ (end3 1 ∷ end7 0 ∷ reopened 374 ∷ [])) (orderCall 257) 0 (pos 0 ∷ pos 1000 ∷ pos 0 ∷ pos 0 ∷ pos 0 ∷ pos 2 ∷ []) 2 0 ∷
     line 2560 0 (beginsBoth 256 ++ (end3 1 ∷ end7 0 ∷ reopened 374 ∷ [])) (orderCall 256) 0 (pos 1 ∷ pos 1001 ∷ pos 0 ∷ pos 1 ∷ pos 8 ∷ pos 2 ∷ []) 2 0 ∷
@@ -81,13 +82,13 @@ openingLines =
 abbrev pub initLines : List Line
 initLines =
     -- "An id's name is 1 to 32 bytes, each 33 to 126."
-    line 2560 0 (opened ∷ []) (initCall (33 ∷ []) (pos 1) (pos 100)) 0 (pos 1000 ∷ pos 0 ∷ []) 1 50 ∷
-    line 2560 0 (opened ∷ []) (initCall (replicate 32 126) (pos 1) (pos 100)) 0 (pos 1000 ∷ pos 0 ∷ []) 1 81 ∷
+    line 2560 0 (opened ∷ []) (call (initCall (33 ∷ []) (pos 1) (pos 100))) 0 (pos 1000 ∷ pos 0 ∷ []) 1 50 ∷
+    line 2560 0 (opened ∷ []) (call (initCall (replicate 32 126) (pos 1) (pos 100))) 0 (pos 1000 ∷ pos 0 ∷ []) 1 81 ∷
     -- a second name gets the next pid, and need not wait for the first; a refused Init uses up no pid
     line 2560 0 (opened ∷ init7 (pos 50) ∷ []) init3 0 (pos 1001 ∷ pos 0 ∷ []) 2 53 ∷
     line 2560 0 (opened ∷ init7 (pos 0) ∷ []) init3 0 (pos 1000 ∷ pos 0 ∷ []) 1 53 ∷
     -- a negative time is below every clock
-    line 2560 0 (opened ∷ []) (initCall rig7 (pos 50) (negsuc 99)) 0 (pos 1000 ∷ pos 0 ∷ []) 1 53 ∷
+    line 2560 0 (opened ∷ []) (call (initCall rig7 (pos 50) (negsuc 99))) 0 (pos 1000 ∷ pos 0 ∷ []) 1 53 ∷
     -- a name held in status 0, 4, 5: "same pid and epoch one higher while the held epoch is below 32766"
     line 2560 8 holds7 (init7 (pos 50)) 0 (pos 1000 ∷ pos 1 ∷ []) 1 53 ∷
     line 2560 8 (completes 0) (init7 (pos 50)) 0 (pos 1000 ∷ pos 1 ∷ []) 1 53 ∷
@@ -100,14 +101,14 @@ initLines =
     -- no new pid is needed for a held name, and none is left
     line 2560 0 (holds7 ++ (openLog catalogueText 53 (pos 2) (pos 5) (pos 7) ∷ [])) (init7 (pos 50)) 0 (pos 1000 ∷ pos 1 ∷ []) 1 53 ∷
     -- the new timeout is used: 70 in place of 50
-    line 2560 0 (holds7 ++ (init7 (pos 70) ∷ flushCall 106 ∷ addCall rig7 (pos 1000) (pos 1) 1 (pos 100) ∷ flushCall 173 ∷ [])) (tickCall (pos 170)) 0 [] 1 0 ∷
-    line 2560 0 (holds7 ++ (init7 (pos 70) ∷ flushCall 106 ∷ addCall rig7 (pos 1000) (pos 1) 1 (pos 100) ∷ flushCall 173 ∷ [])) (tickCall (pos 171)) 0 (pos 0 ∷ []) 1 67 ∷
+    line 2560 0 (holds7 ++ (init7 (pos 70) ∷ call (flushCall 106) ∷ call (addCall rig7 (pos 1000) (pos 1) 1 (pos 100)) ∷ call (flushCall 173) ∷ [])) (call (tickCall (pos 170))) 0 [] 1 0 ∷
+    line 2560 0 (holds7 ++ (init7 (pos 70) ∷ call (flushCall 106) ∷ call (addCall rig7 (pos 1000) (pos 1) 1 (pos 100)) ∷ call (flushCall 173) ∷ [])) (call (tickCall (pos 171))) 0 (pos 0 ∷ []) 1 67 ∷
     -- "Status 1: PREPARE_ABORT, epoch one higher, answer ABORTING."
     line 2560 0 (begins (pos 50)) (init7 (pos 70)) 0 [] 1 67 ∷
-    line 2560 0 (begins (pos 50) ++ (init7 (pos 70) ∷ flushCall 187 ∷ [])) (orderCall 257) 0 (pos 0 ∷ pos 1000 ∷ pos 1 ∷ pos 1 ∷ pos 0 ∷ pos 1 ∷ []) 1 0 ∷
+    line 2560 0 (begins (pos 50) ++ (init7 (pos 70) ∷ call (flushCall 187) ∷ [])) (orderCall 257) 0 (pos 0 ∷ pos 1000 ∷ pos 1 ∷ pos 1 ∷ pos 0 ∷ pos 1 ∷ []) 1 0 ∷
     -- its log opens, so set, start and timeout are those of the BEGIN; then a fenced producer's calls are 11
     line 2560 0 (begins (pos 50) ++ (init7 (pos 70) ∷ [])) (reopened 187) 0 [] 1 0 ∷
-    line 2560 0 (begins (pos 50) ++ (init7 (pos 70) ∷ flushCall 187 ∷ [])) (end7 1) 11 [] 1 0 ∷
+    line 2560 0 (begins (pos 50) ++ (init7 (pos 70) ∷ call (flushCall 187) ∷ [])) (end7 1) 11 [] 1 0 ∷
     -- "17: Init (outside status 1) …": with the reserve alone left, Init in status 1 is accepted
     line 1146 0 (begins (pos 50)) (init7 (pos 50)) 0 [] 1 67 ∷
     -- "need 1,026 bytes left after their record for each id then held": of a held name, and of a second one
@@ -131,17 +132,17 @@ addLines =
     -- the log of a widened set opens, so the start was kept
     line 2560 0 (begins (pos 50) ++ (add7 256 ∷ [])) (reopened 201) 0 [] 1 0 ∷
     -- a widening renews the last update: 110 and 50 are 160
-    line 2560 0 (begins (pos 50) ++ (add7 256 ∷ flushCall 201 ∷ [])) (tickCall (pos 160)) 0 [] 1 0 ∷
-    line 2560 0 (begins (pos 50) ++ (add7 256 ∷ flushCall 201 ∷ [])) (tickCall (pos 161)) 0 (pos 0 ∷ []) 1 81 ∷
+    line 2560 0 (begins (pos 50) ++ (add7 256 ∷ call (flushCall 201) ∷ [])) (call (tickCall (pos 160))) 0 [] 1 0 ∷
+    line 2560 0 (begins (pos 50) ++ (add7 256 ∷ call (flushCall 201) ∷ [])) (call (tickCall (pos 161))) 0 (pos 0 ∷ []) 1 81 ∷
     -- "nothing is appended if all are joined"
     line 2560 0 (begins (pos 50)) (add7 1) 0 [] 1 0 ∷
-    line 2560 0 (begins (pos 50) ++ (add7 256 ∷ flushCall 201 ∷ [])) (add7 1) 0 [] 1 0 ∷
-    line 2560 0 (begins (pos 50) ++ (add7 256 ∷ flushCall 201 ∷ [])) (add7 257) 0 [] 1 0 ∷
+    line 2560 0 (begins (pos 50) ++ (add7 256 ∷ call (flushCall 201) ∷ [])) (add7 1) 0 [] 1 0 ∷
+    line 2560 0 (begins (pos 50) ++ (add7 256 ∷ call (flushCall 201) ∷ [])) (add7 257) 0 [] 1 0 ∷
     -- "Every refusal leaves all as it was, clock included.": the transaction is not overdue after a refused Add of a late time, and is after an accepted one
-    line 2560 0 (begins (pos 50) ++ (addCall rig7 (pos 1000) (pos 0) 0 (pos 1000) ∷ [])) (tickCall (pos 0)) 0 [] 1 0 ∷
-    line 2560 0 (begins (pos 50) ++ (addCall rig7 (pos 1000) (pos 0) 1 (pos 1000) ∷ [])) (tickCall (pos 0)) 0 (pos 0 ∷ []) 1 67 ∷
+    line 2560 0 (begins (pos 50) ++ (call (addCall rig7 (pos 1000) (pos 0) 0 (pos 1000)) ∷ [])) (call (tickCall (pos 0))) 0 [] 1 0 ∷
+    line 2560 0 (begins (pos 50) ++ (call (addCall rig7 (pos 1000) (pos 0) 1 (pos 1000)) ∷ [])) (call (tickCall (pos 0))) 0 (pos 0 ∷ []) 1 67 ∷
     -- "epoch at most 32766": 32766 may begin
-    from (rigTable CompleteAbort 32766 0) noProducer [] (addCall rig7 (pos 1000) (pos 32766) 1 (pos 100)) 0 [] 1 67 ∷
+    from (rigTable CompleteAbort 32766 0) noProducer [] (call (addCall rig7 (pos 1000) (pos 32766) 1 (pos 100))) 0 [] 1 67 ∷
     -- "an Add that appends need[s] 1,026 bytes left after [its] record for each id then held"; one that appends nothing needs none
     line 1146 0 holds7 join 0 [] 1 67 ∷
     line 1146 0 (begins (pos 50)) (add7 1) 0 [] 1 0 ∷
@@ -162,46 +163,46 @@ endLines =
     -- "Status 4 or 5 of that verdict: done, nothing appended."
     line 2560 8 (completes 1) (end7 1) 0 [] 1 0 ∷
     -- done moves the clock: the other name's BEGIN at 120 is overdue at 1000
-    line 2560 8 (completes 0 ++ (init3 ∷ flushCall 293 ∷ add3 1 ∷ flushCall 360 ∷ [])) (tickCall (pos 0)) 0 [] 2 0 ∷
-    line 2560 8 (completes 0 ++ (init3 ∷ flushCall 293 ∷ add3 1 ∷ flushCall 360 ∷ endCall rig7 (pos 1000) (pos 0) 0 (pos 1000) ∷ [])) (tickCall (pos 0)) 0 (pos 1 ∷ []) 2 67 ∷
+    line 2560 8 (completes 0 ++ (init3 ∷ call (flushCall 293) ∷ add3 1 ∷ call (flushCall 360) ∷ [])) (call (tickCall (pos 0))) 0 [] 2 0 ∷
+    line 2560 8 (completes 0 ++ (init3 ∷ call (flushCall 293) ∷ add3 1 ∷ call (flushCall 360) ∷ call (endCall rig7 (pos 1000) (pos 0) 0 (pos 1000)) ∷ [])) (call (tickCall (pos 0))) 0 (pos 1 ∷ []) 2 67 ∷
     []
 
 -- Tick
 abbrev pub tickLines : List Line
 tickLines =
     -- "none only if there is none": no id, and one in EMPTY
-    line 2560 0 (opened ∷ []) (tickCall (pos 100000)) 0 [] 0 0 ∷
-    line 2560 0 holds7 (tickCall (pos 100000)) 0 [] 1 0 ∷
+    line 2560 0 (opened ∷ []) (call (tickCall (pos 100000))) 0 [] 0 0 ∷
+    line 2560 0 holds7 (call (tickCall (pos 100000))) 0 [] 1 0 ∷
     -- "PREPARE_ABORT, epoch one higher"
-    line 2560 0 (begins (pos 50) ++ (tickCall (pos 151) ∷ flushCall 187 ∷ [])) (orderCall 257) 0 (pos 0 ∷ pos 1000 ∷ pos 1 ∷ pos 1 ∷ pos 0 ∷ pos 1 ∷ []) 1 0 ∷
-    line 2560 0 (begins (pos 50) ++ (tickCall (pos 151) ∷ [])) (reopened 187) 0 [] 1 0 ∷
+    line 2560 0 (begins (pos 50) ++ (call (tickCall (pos 151)) ∷ call (flushCall 187) ∷ [])) (orderCall 257) 0 (pos 0 ∷ pos 1000 ∷ pos 1 ∷ pos 1 ∷ pos 0 ∷ pos 1 ∷ []) 1 0 ∷
+    line 2560 0 (begins (pos 50) ++ (call (tickCall (pos 151)) ∷ [])) (reopened 187) 0 [] 1 0 ∷
     -- "the lowest place", then the next
-    line 2560 0 (beginsBoth 1) (tickCall (pos 151)) 0 (pos 0 ∷ []) 2 67 ∷
-    line 2560 0 (beginsBoth 1 ++ (tickCall (pos 151) ∷ [])) (tickCall (pos 151)) 0 (pos 1 ∷ []) 2 67 ∷
-    line 2560 0 (beginsBoth 1 ++ (tickCall (pos 151) ∷ tickCall (pos 151) ∷ [])) (tickCall (pos 151)) 0 [] 2 0 ∷
+    line 2560 0 (beginsBoth 1) (call (tickCall (pos 151))) 0 (pos 0 ∷ []) 2 67 ∷
+    line 2560 0 (beginsBoth 1 ++ (call (tickCall (pos 151)) ∷ [])) (call (tickCall (pos 151))) 0 (pos 1 ∷ []) 2 67 ∷
+    line 2560 0 (beginsBoth 1 ++ (call (tickCall (pos 151)) ∷ call (tickCall (pos 151)) ∷ [])) (call (tickCall (pos 151))) 0 [] 2 0 ∷
     -- "a flushed BEGIN": one that is not flushed, or is widened and that is not, is passed over
-    line 2560 0 (holds7 ++ (join ∷ [])) (tickCall (pos 100000)) 0 [] 1 0 ∷
-    line 2560 0 (beginsBoth 1 ++ (add7 2 ∷ [])) (tickCall (pos 100000)) 0 (pos 1 ∷ []) 2 67 ∷
+    line 2560 0 (holds7 ++ (join ∷ [])) (call (tickCall (pos 100000))) 0 [] 1 0 ∷
+    line 2560 0 (beginsBoth 1 ++ (add7 2 ∷ [])) (call (tickCall (pos 100000))) 0 (pos 1 ∷ []) 2 67 ∷
     -- none moves the clock: the set is widened at 140, though the time given then is 0
-    line 2560 0 (begins (pos 50) ++ (tickCall (pos 140) ∷ addCall rig7 (pos 1000) (pos 0) 256 (pos 0) ∷ flushCall 201 ∷ [])) (tickCall (pos 190)) 0 [] 1 0 ∷
-    line 2560 0 (begins (pos 50) ++ (tickCall (pos 140) ∷ addCall rig7 (pos 1000) (pos 0) 256 (pos 0) ∷ flushCall 201 ∷ [])) (tickCall (pos 191)) 0 (pos 0 ∷ []) 1 81 ∷
+    line 2560 0 (begins (pos 50) ++ (call (tickCall (pos 140)) ∷ call (addCall rig7 (pos 1000) (pos 0) 256 (pos 0)) ∷ call (flushCall 201) ∷ [])) (call (tickCall (pos 190))) 0 [] 1 0 ∷
+    line 2560 0 (begins (pos 50) ++ (call (tickCall (pos 140)) ∷ call (addCall rig7 (pos 1000) (pos 0) 256 (pos 0)) ∷ call (flushCall 201) ∷ [])) (call (tickCall (pos 191))) 0 (pos 0 ∷ []) 1 81 ∷
     -- "The clock is the greater of its old value and the time given": after 151 a negative time is 151
-    line 2560 0 (holds7 ++ (join ∷ tickCall (pos 151) ∷ flushCall 120 ∷ [])) (tickCall (negsuc 99)) 0 (pos 0 ∷ []) 1 67 ∷
+    line 2560 0 (holds7 ++ (join ∷ call (tickCall (pos 151)) ∷ call (flushCall 120) ∷ [])) (call (tickCall (negsuc 99))) 0 (pos 0 ∷ []) 1 67 ∷
     -- the prepare needs no more than the reserve
-    line 1146 0 (begins (pos 50)) (tickCall (pos 151)) 0 (pos 0 ∷ []) 1 67 ∷
+    line 1146 0 (begins (pos 50)) (call (tickCall (pos 151))) 0 (pos 0 ∷ []) 1 67 ∷
     []
 
 -- Flush
 abbrev pub flushLines : List Line
 flushLines =
     -- from the flushed length to the log's end
-    line 2560 0 (opened ∷ init7 (pos 50) ∷ []) (flushCall 0) 0 [] 1 0 ∷
-    line 2560 0 (opened ∷ init7 (pos 50) ∷ []) (flushCall 53) 0 [] 1 0 ∷
-    line 2560 0 holds7 (flushCall 53) 0 [] 1 0 ∷
+    line 2560 0 (opened ∷ init7 (pos 50) ∷ []) (call (flushCall 0)) 0 [] 1 0 ∷
+    line 2560 0 (opened ∷ init7 (pos 50) ∷ []) (call (flushCall 53)) 0 [] 1 0 ∷
+    line 2560 0 holds7 (call (flushCall 53)) 0 [] 1 0 ∷
     -- a flushed length inside a frame is accepted, and the frame counts as unflushed
-    line 2560 0 (opened ∷ init7 (pos 50) ∷ []) (flushCall 52) 0 [] 1 0 ∷
-    line 2560 0 (opened ∷ init7 (pos 50) ∷ flushCall 52 ∷ []) join 12 [] 1 0 ∷
-    line 2560 0 (opened ∷ init7 (pos 50) ∷ flushCall 52 ∷ flushCall 53 ∷ []) join 0 [] 1 67 ∷
+    line 2560 0 (opened ∷ init7 (pos 50) ∷ []) (call (flushCall 52)) 0 [] 1 0 ∷
+    line 2560 0 (opened ∷ init7 (pos 50) ∷ call (flushCall 52) ∷ []) join 12 [] 1 0 ∷
+    line 2560 0 (opened ∷ init7 (pos 50) ∷ call (flushCall 52) ∷ call (flushCall 53) ∷ []) join 0 [] 1 67 ∷
     []
 
 -- Order
@@ -216,7 +217,7 @@ orderLines =
     line 2560 0 preparesBoth (orderCall 18446744073709551615) 0 (pos 0 ∷ pos 1000 ∷ pos 0 ∷ pos 0 ∷ pos 0 ∷ pos 1 ∷ []) 2 0 ∷
     -- "else the next place": a place whose partitions are down, an unflushed one, or a completed one is passed over
     line 2560 0 preparesBoth (orderCall 256) 0 (pos 1 ∷ pos 1001 ∷ pos 0 ∷ pos 1 ∷ pos 8 ∷ pos 1 ∷ []) 2 0 ∷
-    line 2560 0 (beginsBoth 256 ++ (end3 1 ∷ end7 0 ∷ flushCall 307 ∷ [])) (orderCall 257) 0 (pos 1 ∷ pos 1001 ∷ pos 0 ∷ pos 1 ∷ pos 8 ∷ pos 1 ∷ []) 2 0 ∷
+    line 2560 0 (beginsBoth 256 ++ (end3 1 ∷ end7 0 ∷ call (flushCall 307) ∷ [])) (orderCall 257) 0 (pos 1 ∷ pos 1001 ∷ pos 0 ∷ pos 1 ∷ pos 8 ∷ pos 1 ∷ []) 2 0 ∷
     line 2560 0 (preparesBoth ++ (ack7 ∷ [])) (orderCall 257) 0 (pos 1 ∷ pos 1001 ∷ pos 0 ∷ pos 1 ∷ pos 8 ∷ pos 1 ∷ []) 2 0 ∷
     -- none if all are down
     line 2560 0 preparesBoth (orderCall 2) 0 [] 2 0 ∷
@@ -233,22 +234,22 @@ abbrev pub ackLines : List Line
 ackLines =
     -- "the last one outstanding appends COMPLETE_COMMIT or COMPLETE_ABORT", in either order of the two
     line 2560 0 preparesTwo ack7 0 [] 1 0 ∷
-    line 2560 0 (preparesTwo ++ (ack7 ∷ [])) (ackCall 0 (pos 1000) (pos 0) 8) 0 [] 1 53 ∷
-    line 2560 0 (preparesTwo ++ (ackCall 0 (pos 1000) (pos 0) 8 ∷ [])) ack7 0 [] 1 53 ∷
+    line 2560 0 (preparesTwo ++ (ack7 ∷ [])) (call (ackCall 0 (pos 1000) (pos 0) 8)) 0 [] 1 53 ∷
+    line 2560 0 (preparesTwo ++ (call (ackCall 0 (pos 1000) (pos 0) 8) ∷ [])) ack7 0 [] 1 53 ∷
     line 2560 8 (prepares 1) ack7 0 [] 1 53 ∷
     -- "a position already acknowledged is done, nothing changes"
     line 2560 0 (preparesTwo ++ (ack7 ∷ [])) ack7 0 [] 1 0 ∷
     line 2560 0 (preparesTwo ++ (ack7 ∷ ack7 ∷ [])) (orderCall 257) 0 (pos 0 ∷ pos 1000 ∷ pos 0 ∷ pos 0 ∷ pos 8 ∷ pos 1 ∷ []) 1 0 ∷
     -- of a fenced transaction, with the epoch that its order carries
-    line 2560 0 (begins (pos 50) ++ (tickCall (pos 151) ∷ flushCall 187 ∷ [])) (ackCall 0 (pos 1000) (pos 1) 0) 0 [] 1 53 ∷
+    line 2560 0 (begins (pos 50) ++ (call (tickCall (pos 151)) ∷ call (flushCall 187) ∷ [])) (call (ackCall 0 (pos 1000) (pos 1) 0)) 0 [] 1 53 ∷
     -- "the set acknowledged since … that record": the next transaction of the same partitions starts with none
-    line 2560 0 (preparesTwo ++ (ack7 ∷ ackCall 0 (pos 1000) (pos 0) 8 ∷ flushCall 268 ∷ add7 257 ∷ flushCall 349 ∷ end7 0 ∷ flushCall 430 ∷ [])) (orderCall 257) 0 (pos 0 ∷ pos 1000 ∷ pos 0 ∷ pos 0 ∷ pos 0 ∷ pos 1 ∷ []) 1 0 ∷
+    line 2560 0 (preparesTwo ++ (ack7 ∷ call (ackCall 0 (pos 1000) (pos 0) 8) ∷ call (flushCall 268) ∷ add7 257 ∷ call (flushCall 349) ∷ end7 0 ∷ call (flushCall 430) ∷ [])) (orderCall 257) 0 (pos 0 ∷ pos 1000 ∷ pos 0 ∷ pos 0 ∷ pos 0 ∷ pos 1 ∷ []) 1 0 ∷
     -- the log of a completed transaction opens
     line 2560 8 (completes 0) (reopened 240) 0 [] 1 0 ∷
     line 2560 8 (completes 1) (reopened 240) 0 [] 1 0 ∷
     -- "Last update is the clock.", which Tick moved to 500: after an opening it makes the other name's BEGIN at 120 overdue
-    line 2560 8 (prepares 0 ++ (init3 ∷ flushCall 240 ∷ add3 1 ∷ reopened 307 ∷ [])) (tickCall (pos 0)) 0 [] 2 0 ∷
-    line 2560 8 (prepares 0 ++ (init3 ∷ flushCall 240 ∷ add3 1 ∷ tickCall (pos 500) ∷ ack7 ∷ reopened 360 ∷ [])) (tickCall (pos 0)) 0 (pos 1 ∷ []) 2 67 ∷
+    line 2560 8 (prepares 0 ++ (init3 ∷ call (flushCall 240) ∷ add3 1 ∷ reopened 307 ∷ [])) (call (tickCall (pos 0))) 0 [] 2 0 ∷
+    line 2560 8 (prepares 0 ++ (init3 ∷ call (flushCall 240) ∷ add3 1 ∷ call (tickCall (pos 500)) ∷ ack7 ∷ reopened 360 ∷ [])) (call (tickCall (pos 0))) 0 (pos 1 ∷ []) 2 67 ∷
     []
 
 -- Produce
@@ -257,9 +258,9 @@ produceLines =
     -- the offset of the entry, and its words: "pid; kind …; epoch×2^32 plus sequence …; payload"
     writes (1000 ∷ 0 ∷ 1 ∷ 503 ∷ []) (line 2560 40 (begins (pos 50) ++ (put ∷ [])) putNext 0 (pos 1 ∷ []) 1 0) ∷
     -- sequences go on after a marker of the same epoch
-    writes (1000 ∷ 0 ∷ 1 ∷ 503 ∷ []) (line 2560 40 (completes 0 ++ (join ∷ flushCall 307 ∷ [])) putNext 0 (pos 2 ∷ []) 1 0) ∷
+    writes (1000 ∷ 0 ∷ 1 ∷ 503 ∷ []) (line 2560 40 (completes 0 ++ (join ∷ call (flushCall 307) ∷ [])) putNext 0 (pos 2 ∷ []) 1 0) ∷
     -- "next sequence is 0, with no last, for a new pid or higher epoch"
-    writes (1000 ∷ 0 ∷ 4294967296 ∷ 502 ∷ []) (line 2560 40 (completes 0 ++ (init7 (pos 50) ∷ flushCall 293 ∷ addCall rig7 (pos 1000) (pos 1) 1 (pos 120) ∷ flushCall 360 ∷ [])) (produceCall rig7 (pos 1000) (pos 1) 0 (pos 0) 502) 0 (pos 2 ∷ []) 1 0) ∷
+    writes (1000 ∷ 0 ∷ 4294967296 ∷ 502 ∷ []) (line 2560 40 (completes 0 ++ (init7 (pos 50) ∷ call (flushCall 293) ∷ call (addCall rig7 (pos 1000) (pos 1) 1 (pos 120)) ∷ call (flushCall 360) ∷ [])) (produceCall rig7 (pos 1000) (pos 1) 0 (pos 0) 502) 0 (pos 2 ∷ []) 1 0) ∷
     writes (1000 ∷ 0 ∷ 0 ∷ 502 ∷ []) (from (rigTable Begin 0 1) (closedProducer 999 7 9) [] (putAt (pos 0)) 0 (pos 1 ∷ []) 1 0) ∷
     -- a higher epoch at the open transaction of the same pid joins it, and its first offset is kept
     writes (1000 ∷ 0 ∷ 4294967296 ∷ 502 ∷ []) (from (rigTable Begin 1 1) (openProducer 1000 0 9) [] (produceCall rig7 (pos 1000) (pos 1) 0 (pos 0) 502) 0 (pos 1 ∷ []) 1 0) ∷
@@ -281,7 +282,7 @@ markerLines =
     -- "one marker entry": "1 COMMIT, 2 ABORT", "a marker has its order's epoch, and the coordinator epoch for sequence", "payload (0 for markers)"
     writes (1000 ∷ 1 ∷ 1 ∷ 0 ∷ []) (line 2560 8 (prepares 0) (mark 0) 0 [] 1 0) ∷
     writes (1000 ∷ 2 ∷ 1 ∷ 0 ∷ []) (line 2560 8 (prepares 1) (mark 1) 0 [] 1 0) ∷
-    writes (1000 ∷ 2 ∷ 4294967303 ∷ 0 ∷ []) (line 2560 8 (begins (pos 50) ++ (put ∷ tickCall (pos 151) ∷ flushCall 187 ∷ [])) (markerCall 0 (pos 1000) (pos 1) 1 (pos 7)) 0 [] 1 0) ∷
+    writes (1000 ∷ 2 ∷ 4294967303 ∷ 0 ∷ []) (line 2560 8 (begins (pos 50) ++ (put ∷ call (tickCall (pos 151)) ∷ call (flushCall 187) ∷ [])) (markerCall 0 (pos 1000) (pos 1) 1 (pos 7)) 0 [] 1 0) ∷
     -- "another pid at that place, or no open transaction there: done, no entry"
     line 2560 8 (prepares 0) (markerCall 0 (pos 999) (pos 0) 0 (pos 1)) 0 [] 1 0 ∷
     line 2560 8 (prepares 0) (markerCall 31 (pos 1000) (pos 0) 0 (pos 1)) 0 [] 1 0 ∷
@@ -340,8 +341,8 @@ readLines =
 abbrev pub refusedLines : List Line
 refusedLines =
     -- an Ack of another epoch, a Flush past the end, a Marker of verdict 2
-    line 2560 8 (prepares 0 ++ (ackCall 0 (pos 1000) (pos 1) 0 ∷ [])) (orderCall 257) 0 (pos 0 ∷ pos 1000 ∷ pos 0 ∷ pos 0 ∷ pos 0 ∷ pos 1 ∷ []) 1 0 ∷
-    line 2560 8 (begins (pos 50) ++ (put ∷ end7 0 ∷ flushCall 188 ∷ [])) (orderCall 257) 0 [] 1 0 ∷
+    line 2560 8 (prepares 0 ++ (call (ackCall 0 (pos 1000) (pos 1) 0) ∷ [])) (orderCall 257) 0 (pos 0 ∷ pos 1000 ∷ pos 0 ∷ pos 0 ∷ pos 0 ∷ pos 1 ∷ []) 1 0 ∷
+    line 2560 8 (begins (pos 50) ++ (put ∷ end7 0 ∷ call (flushCall 188) ∷ [])) (orderCall 257) 0 [] 1 0 ∷
     writes (1000 ∷ 1 ∷ 1 ∷ 0 ∷ []) (line 2560 8 (prepares 0 ++ (markerCall 0 (pos 1000) (pos 0) 2 (pos 9) ∷ [])) (mark 0) 0 [] 1 0) ∷
     []
 

@@ -8,7 +8,8 @@ use lib.ListN.{replicate, take}
 use Rattle.record.specs.declared.Status.the-variants.{Empty, Begin, PrepareCommit, PrepareAbort, CompleteCommit, CompleteAbort}
 use Rattle.table.specs.Table.{emptyTable}
 use Rattle.partition.specs.Partition.{noProducer}
-use Rattle.server.specs.Calls.{Call, openLog, openWords, initCall, addCall, endCall, tickCall, flushCall, orderCall, ackCall, produceCall, markerCall, readCall}
+use Rattle.coordinator.specs.Calls.{initCall, addCall, endCall, tickCall, flushCall, ackCall}
+use Rattle.server.specs.Calls.{Call, openLog, openWords, call, orderCall, produceCall, markerCall, readCall}
 use Rattle.server.specs.Lines.{Line, line, lineFrom, reads, catalogueText, rig7, opened, init7, join, begins, put}
 use Rattle.examples.specs.Starts.{reopened, add7, end7, putAt, putNext, mark, ack7, holds7, prepares, completes, lab3, init3, put3, holdsBoth, beginsBoth, record7, recordFor, rigTable, fullTable, closedProducer, openProducer, from, tight, partitionAlone, lending, empty7, begin7, emptyRecords, lentLog, opens}
 
@@ -84,17 +85,17 @@ openingRefusals =
 abbrev pub initRefusals : List Line
 initRefusals =
     -- "8 log buffer … not of the length it was opened with", shorter or longer; 1 would apply too
-    lineFrom (lending 2559 40 emptyTable noProducer) [] (initCall [] (pos 0) (pos 100)) 8 [] 0 0 ∷
-    lineFrom (lending 2561 40 emptyTable noProducer) [] (initCall [] (pos 0) (pos 100)) 8 [] 0 0 ∷
+    lineFrom (lending 2559 40 emptyTable noProducer) [] (call (initCall [] (pos 0) (pos 100))) 8 [] 0 0 ∷
+    lineFrom (lending 2561 40 emptyTable noProducer) [] (call (initCall [] (pos 0) (pos 100))) 8 [] 0 0 ∷
     -- nor is a state admitted that no call has made: one without its reserve, or without an opening
     lineFrom (tight (rigTable Begin 0 1) 1078) [] (init7 (pos 50)) 8 [] 1 0 ∷
     line 2560 0 [] (init7 (pos 50)) 8 [] 0 0 ∷
     -- "1 name": 1 to 32 bytes, each 33 to 126; 2 would apply too
-    line 2560 0 (opened ∷ []) (initCall [] (pos 0) (pos 100)) 1 [] 0 0 ∷
-    line 2560 0 (opened ∷ []) (initCall (replicate 33 97) (pos 0) (pos 100)) 1 [] 0 0 ∷
-    line 2560 0 (opened ∷ []) (initCall (114 ∷ 32 ∷ []) (pos 0) (pos 100)) 1 [] 0 0 ∷
-    line 2560 0 (opened ∷ []) (initCall (127 ∷ []) (pos 0) (pos 100)) 1 [] 0 0 ∷
-    line 2560 0 (opened ∷ []) (initCall (114 ∷ 0 ∷ []) (pos 0) (pos 100)) 1 [] 0 0 ∷
+    line 2560 0 (opened ∷ []) (call (initCall [] (pos 0) (pos 100))) 1 [] 0 0 ∷
+    line 2560 0 (opened ∷ []) (call (initCall (replicate 33 97) (pos 0) (pos 100))) 1 [] 0 0 ∷
+    line 2560 0 (opened ∷ []) (call (initCall (114 ∷ 32 ∷ []) (pos 0) (pos 100))) 1 [] 0 0 ∷
+    line 2560 0 (opened ∷ []) (call (initCall (127 ∷ []) (pos 0) (pos 100))) 1 [] 0 0 ∷
+    line 2560 0 (opened ∷ []) (call (initCall (114 ∷ 0 ∷ []) (pos 0) (pos 100))) 1 [] 0 0 ∷
     -- "2 timeout not 1..900000": 12 would apply too
     line 2560 0 (opened ∷ init7 (pos 50) ∷ []) (init7 (pos 0)) 2 [] 1 0 ∷
     line 2560 0 (opened ∷ init7 (pos 50) ∷ []) (init7 (negsuc 0)) 2 [] 1 0 ∷
@@ -125,43 +126,43 @@ initRefusals =
     line 2157 0 holds7 init3 17 [] 1 0 ∷
     line 1131 0 holds7 (init7 (pos 50)) 17 [] 1 0 ∷
     -- of a name held among 32, which is no 15
-    from fullTable noProducer [] (initCall (97 ∷ []) (pos 50) (pos 100)) 17 [] 32 0 ∷
+    from fullTable noProducer [] (call (initCall (97 ∷ []) (pos 50) (pos 100))) 17 [] 32 0 ∷
     []
 
 -- Add
 abbrev pub addRefusals : List Line
 addRefusals =
     -- "8 log buffer": in the first 1 would apply too
-    lineFrom (lending 2559 40 (rigTable Begin 0 1) noProducer) [] (addCall [] (pos 1000) (pos 0) 0 (pos 100)) 8 [] 1 0 ∷
-    lineFrom (lending 2561 40 (rigTable Begin 0 1) noProducer) [] (addCall rig7 (pos 1000) (pos 0) 1 (pos 100)) 8 [] 1 0 ∷
+    lineFrom (lending 2559 40 (rigTable Begin 0 1) noProducer) [] (call (addCall [] (pos 1000) (pos 0) 0 (pos 100))) 8 [] 1 0 ∷
+    lineFrom (lending 2561 40 (rigTable Begin 0 1) noProducer) [] (call (addCall rig7 (pos 1000) (pos 0) 1 (pos 100))) 8 [] 1 0 ∷
     -- "1 name": 3 would apply too
-    line 2560 0 (begins (pos 50)) (addCall [] (pos 1000) (pos 0) 0 (pos 100)) 1 [] 1 0 ∷
-    line 2560 0 (begins (pos 50)) (addCall (replicate 33 97) (pos 1000) (pos 0) 4 (pos 100)) 1 [] 1 0 ∷
+    line 2560 0 (begins (pos 50)) (call (addCall [] (pos 1000) (pos 0) 0 (pos 100))) 1 [] 1 0 ∷
+    line 2560 0 (begins (pos 50)) (call (addCall (replicate 33 97) (pos 1000) (pos 0) 4 (pos 100))) 1 [] 1 0 ∷
     -- "3 set empty or outside the catalogue": 10 would apply too
-    line 2560 0 (begins (pos 50)) (addCall rig7 (pos 999) (pos 0) 0 (pos 100)) 3 [] 1 0 ∷
-    line 2560 0 (begins (pos 50)) (addCall lab3 (pos 1000) (pos 0) 4 (pos 100)) 3 [] 1 0 ∷
-    line 2560 0 (begins (pos 50)) (addCall rig7 (pos 999) (pos 0) 513 (pos 100)) 3 [] 1 0 ∷
+    line 2560 0 (begins (pos 50)) (call (addCall rig7 (pos 999) (pos 0) 0 (pos 100))) 3 [] 1 0 ∷
+    line 2560 0 (begins (pos 50)) (call (addCall lab3 (pos 1000) (pos 0) 4 (pos 100))) 3 [] 1 0 ∷
+    line 2560 0 (begins (pos 50)) (call (addCall rig7 (pos 999) (pos 0) 513 (pos 100))) 3 [] 1 0 ∷
     -- "10 name not held or pid differs": 11 would apply too, but in the second, which asks for what a free place holds
-    line 2560 0 (begins (pos 50)) (addCall lab3 (pos 1000) (pos 7) 1 (pos 100)) 10 [] 1 0 ∷
-    line 2560 0 (begins (pos 50)) (addCall lab3 (pos 0) (pos 0) 1 (pos 100)) 10 [] 1 0 ∷
-    line 2560 0 (begins (pos 50)) (addCall rig7 (pos 999) (pos 7) 1 (pos 100)) 10 [] 1 0 ∷
-    line 2560 0 (begins (pos 50)) (addCall rig7 (negsuc 999) (pos 0) 1 (pos 100)) 10 [] 1 0 ∷
+    line 2560 0 (begins (pos 50)) (call (addCall lab3 (pos 1000) (pos 7) 1 (pos 100))) 10 [] 1 0 ∷
+    line 2560 0 (begins (pos 50)) (call (addCall lab3 (pos 0) (pos 0) 1 (pos 100))) 10 [] 1 0 ∷
+    line 2560 0 (begins (pos 50)) (call (addCall rig7 (pos 999) (pos 7) 1 (pos 100))) 10 [] 1 0 ∷
+    line 2560 0 (begins (pos 50)) (call (addCall rig7 (negsuc 999) (pos 0) 1 (pos 100))) 10 [] 1 0 ∷
     -- "11 epoch differs", higher, lower or negative: in the first two 12 would apply too
-    line 2560 0 (opened ∷ init7 (pos 50) ∷ []) (addCall rig7 (pos 1000) (pos 1) 1 (pos 100)) 11 [] 1 0 ∷
-    line 2560 0 (opened ∷ init7 (pos 50) ∷ []) (addCall rig7 (pos 1000) (negsuc 0) 1 (pos 100)) 11 [] 1 0 ∷
-    line 2560 0 (holds7 ++ (init7 (pos 50) ∷ flushCall 106 ∷ [])) (addCall rig7 (pos 1000) (pos 0) 1 (pos 100)) 11 [] 1 0 ∷
+    line 2560 0 (opened ∷ init7 (pos 50) ∷ []) (call (addCall rig7 (pos 1000) (pos 1) 1 (pos 100))) 11 [] 1 0 ∷
+    line 2560 0 (opened ∷ init7 (pos 50) ∷ []) (call (addCall rig7 (pos 1000) (negsuc 0) 1 (pos 100))) 11 [] 1 0 ∷
+    line 2560 0 (holds7 ++ (init7 (pos 50) ∷ call (flushCall 106) ∷ [])) (call (addCall rig7 (pos 1000) (pos 0) 1 (pos 100))) 11 [] 1 0 ∷
     -- "Epoch 32767 is refusal 11.": of an idle id, of an unflushed one, where 12 would apply too, and in status 3, where 14 would
-    from (rigTable CompleteAbort 32767 0) noProducer [] (addCall rig7 (pos 1000) (pos 32767) 1 (pos 100)) 11 [] 1 0 ∷
-    from (rigTable PrepareAbort 32767 1) noProducer (ackCall 0 (pos 1000) (pos 32767) 0 ∷ []) (addCall rig7 (pos 1000) (pos 32767) 1 (pos 100)) 11 [] 1 0 ∷
-    from (rigTable PrepareAbort 32767 1) noProducer [] (addCall rig7 (pos 1000) (pos 32767) 1 (pos 100)) 11 [] 1 0 ∷
+    from (rigTable CompleteAbort 32767 0) noProducer [] (call (addCall rig7 (pos 1000) (pos 32767) 1 (pos 100))) 11 [] 1 0 ∷
+    from (rigTable PrepareAbort 32767 1) noProducer (call (ackCall 0 (pos 1000) (pos 32767) 0) ∷ []) (call (addCall rig7 (pos 1000) (pos 32767) 1 (pos 100))) 11 [] 1 0 ∷
+    from (rigTable PrepareAbort 32767 1) noProducer [] (call (addCall rig7 (pos 1000) (pos 32767) 1 (pos 100))) 11 [] 1 0 ∷
     -- "12 not flushed": in status 2 and 3 14 would apply too; in status 1 with all joined nothing would be appended
     line 2560 0 (begins (pos 50) ++ (end7 0 ∷ [])) (add7 256) 12 [] 1 0 ∷
     line 2560 0 (begins (pos 50) ++ (end7 1 ∷ [])) (add7 256) 12 [] 1 0 ∷
     line 2560 0 (opened ∷ init7 (pos 50) ∷ []) (add7 1) 12 [] 1 0 ∷
     line 2560 0 (holds7 ++ (join ∷ [])) (add7 1) 12 [] 1 0 ∷
     -- "Status 2, 3: 14.": 17 would apply too, but in the last, of joined partitions
-    line 1146 0 (begins (pos 50) ++ (end7 0 ∷ flushCall 187 ∷ [])) (add7 256) 14 [] 1 0 ∷
-    line 1146 0 (begins (pos 50) ++ (end7 1 ∷ flushCall 187 ∷ [])) (add7 256) 14 [] 1 0 ∷
+    line 1146 0 (begins (pos 50) ++ (end7 0 ∷ call (flushCall 187) ∷ [])) (add7 256) 14 [] 1 0 ∷
+    line 1146 0 (begins (pos 50) ++ (end7 1 ∷ call (flushCall 187) ∷ [])) (add7 256) 14 [] 1 0 ∷
     line 2560 8 (prepares 0) (add7 1) 14 [] 1 0 ∷
     -- "17: … an Add that appends need[s] 1,026 bytes left after [its] record for each id then held": the first partition, a wider set, two ids
     line 1145 0 holds7 join 17 [] 1 0 ∷
@@ -173,21 +174,21 @@ addRefusals =
 abbrev pub endRefusals : List Line
 endRefusals =
     -- "8 log buffer": in the first 1 would apply too
-    lineFrom (lending 2559 40 (rigTable Begin 0 1) noProducer) [] (endCall [] (pos 1000) (pos 0) 2 (pos 120)) 8 [] 1 0 ∷
+    lineFrom (lending 2559 40 (rigTable Begin 0 1) noProducer) [] (call (endCall [] (pos 1000) (pos 0) 2 (pos 120))) 8 [] 1 0 ∷
     lineFrom (lending 2561 40 (rigTable Begin 0 1) noProducer) [] (end7 0) 8 [] 1 0 ∷
     -- "1 name": 4 would apply too
-    line 2560 0 (begins (pos 50)) (endCall [] (pos 1000) (pos 0) 2 (pos 120)) 1 [] 1 0 ∷
-    line 2560 0 (begins (pos 50)) (endCall (replicate 33 97) (pos 1000) (pos 0) 2 (pos 120)) 1 [] 1 0 ∷
+    line 2560 0 (begins (pos 50)) (call (endCall [] (pos 1000) (pos 0) 2 (pos 120))) 1 [] 1 0 ∷
+    line 2560 0 (begins (pos 50)) (call (endCall (replicate 33 97) (pos 1000) (pos 0) 2 (pos 120))) 1 [] 1 0 ∷
     -- "4 verdict not 0 or 1": 10 would apply too
-    line 2560 0 (begins (pos 50)) (endCall lab3 (pos 1000) (pos 0) 2 (pos 120)) 4 [] 1 0 ∷
-    line 2560 0 (begins (pos 50)) (endCall rig7 (pos 999) (pos 0) 256 (pos 120)) 4 [] 1 0 ∷
+    line 2560 0 (begins (pos 50)) (call (endCall lab3 (pos 1000) (pos 0) 2 (pos 120))) 4 [] 1 0 ∷
+    line 2560 0 (begins (pos 50)) (call (endCall rig7 (pos 999) (pos 0) 256 (pos 120))) 4 [] 1 0 ∷
     -- "10 name not held or pid differs": 11 would apply too, but in the second, which asks for what a free place holds
-    line 2560 0 (begins (pos 50)) (endCall lab3 (pos 1000) (pos 7) 0 (pos 120)) 10 [] 1 0 ∷
-    line 2560 0 (begins (pos 50)) (endCall lab3 (pos 0) (pos 0) 0 (pos 120)) 10 [] 1 0 ∷
-    line 2560 0 (begins (pos 50)) (endCall rig7 (pos 999) (pos 7) 0 (pos 120)) 10 [] 1 0 ∷
+    line 2560 0 (begins (pos 50)) (call (endCall lab3 (pos 1000) (pos 7) 0 (pos 120))) 10 [] 1 0 ∷
+    line 2560 0 (begins (pos 50)) (call (endCall lab3 (pos 0) (pos 0) 0 (pos 120))) 10 [] 1 0 ∷
+    line 2560 0 (begins (pos 50)) (call (endCall rig7 (pos 999) (pos 7) 0 (pos 120))) 10 [] 1 0 ∷
     -- "11 epoch differs": 12 would apply too
-    line 2560 0 (opened ∷ init7 (pos 50) ∷ []) (endCall rig7 (pos 1000) (pos 1) 0 (pos 120)) 11 [] 1 0 ∷
-    line 2560 0 (holds7 ++ (join ∷ [])) (endCall rig7 (pos 1000) (negsuc 0) 0 (pos 120)) 11 [] 1 0 ∷
+    line 2560 0 (opened ∷ init7 (pos 50) ∷ []) (call (endCall rig7 (pos 1000) (pos 1) 0 (pos 120))) 11 [] 1 0 ∷
+    line 2560 0 (holds7 ++ (join ∷ [])) (call (endCall rig7 (pos 1000) (negsuc 0) 0 (pos 120))) 11 [] 1 0 ∷
     -- "12 not flushed": of status 0 13 would apply too, of status 2 and 3 13 or 14; a BEGIN, and an End that would only say done
     line 2560 0 (opened ∷ init7 (pos 50) ∷ []) (end7 0) 12 [] 1 0 ∷
     line 2560 0 (begins (pos 50) ++ (end7 0 ∷ [])) (end7 0) 12 [] 1 0 ∷
@@ -211,52 +212,52 @@ endRefusals =
 abbrev pub tickRefusals : List Line
 tickRefusals =
     -- "8 log buffer", though a transaction is overdue
-    lineFrom (lending 2559 40 (rigTable Begin 0 1) noProducer) [] (tickCall (pos 100000)) 8 [] 1 0 ∷
-    lineFrom (lending 2561 40 (rigTable Begin 0 1) noProducer) [] (tickCall (pos 100000)) 8 [] 1 0 ∷
+    lineFrom (lending 2559 40 (rigTable Begin 0 1) noProducer) [] (call (tickCall (pos 100000))) 8 [] 1 0 ∷
+    lineFrom (lending 2561 40 (rigTable Begin 0 1) noProducer) [] (call (tickCall (pos 100000))) 8 [] 1 0 ∷
     []
 
 -- Flush
 abbrev pub flushRefusals : List Line
 flushRefusals =
     -- "7 … in Flush below the flushed length or past the end"
-    line 2560 0 holds7 (flushCall 52) 7 [] 1 0 ∷
-    line 2560 0 holds7 (flushCall 54) 7 [] 1 0 ∷
-    line 2560 0 (holds7 ++ (join ∷ [])) (flushCall 121) 7 [] 1 0 ∷
+    line 2560 0 holds7 (call (flushCall 52)) 7 [] 1 0 ∷
+    line 2560 0 holds7 (call (flushCall 54)) 7 [] 1 0 ∷
+    line 2560 0 (holds7 ++ (join ∷ [])) (call (flushCall 121)) 7 [] 1 0 ∷
     -- after a log cut inside its second frame the end is that of the first
-    line 2560 0 (holds7 ++ (join ∷ reopened 119 ∷ [])) (flushCall 54) 7 [] 1 0 ∷
-    line 2560 0 (holds7 ++ (join ∷ reopened 119 ∷ [])) (flushCall 52) 7 [] 1 0 ∷
+    line 2560 0 (holds7 ++ (join ∷ reopened 119 ∷ [])) (call (flushCall 54)) 7 [] 1 0 ∷
+    line 2560 0 (holds7 ++ (join ∷ reopened 119 ∷ [])) (call (flushCall 52)) 7 [] 1 0 ∷
     []
 
 -- Ack
 abbrev pub ackRefusals : List Line
 ackRefusals =
     -- "8 log buffer": in the first 3 would apply too
-    lineFrom (lending 2559 40 (rigTable PrepareCommit 0 1) noProducer) [] (ackCall 0 (pos 1000) (pos 0) 2) 8 [] 1 0 ∷
+    lineFrom (lending 2559 40 (rigTable PrepareCommit 0 1) noProducer) [] (call (ackCall 0 (pos 1000) (pos 0) 2)) 8 [] 1 0 ∷
     lineFrom (lending 2561 40 (rigTable PrepareCommit 0 1) noProducer) [] ack7 8 [] 1 0 ∷
     -- "3 … or such a position": 10 would apply too
-    line 2560 8 (prepares 0) (ackCall 1 (pos 1000) (pos 0) 2) 3 [] 1 0 ∷
-    line 2560 8 (prepares 0) (ackCall 0 (pos 999) (pos 0) 64) 3 [] 1 0 ∷
+    line 2560 8 (prepares 0) (call (ackCall 1 (pos 1000) (pos 0) 2)) 3 [] 1 0 ∷
+    line 2560 8 (prepares 0) (call (ackCall 0 (pos 999) (pos 0) 64)) 3 [] 1 0 ∷
     -- "10 … (Ack: place or pid)": a place above 31, twice, a free one, another pid; in the last 11 would apply too
-    line 2560 8 (prepares 0) (ackCall 32 (pos 1000) (pos 0) 0) 10 [] 1 0 ∷
-    line 2560 8 (prepares 0) (ackCall 32 (pos 0) (pos 0) 0) 10 [] 1 0 ∷
-    line 2560 8 (prepares 0) (ackCall 1 (pos 0) (pos 0) 0) 10 [] 1 0 ∷
-    line 2560 8 (prepares 0) (ackCall 0 (pos 999) (pos 7) 0) 10 [] 1 0 ∷
+    line 2560 8 (prepares 0) (call (ackCall 32 (pos 1000) (pos 0) 0)) 10 [] 1 0 ∷
+    line 2560 8 (prepares 0) (call (ackCall 32 (pos 0) (pos 0) 0)) 10 [] 1 0 ∷
+    line 2560 8 (prepares 0) (call (ackCall 1 (pos 0) (pos 0) 0)) 10 [] 1 0 ∷
+    line 2560 8 (prepares 0) (call (ackCall 0 (pos 999) (pos 7) 0)) 10 [] 1 0 ∷
     -- "11 epoch differs": 12 would apply too
-    line 2560 0 (begins (pos 50) ++ (end7 0 ∷ [])) (ackCall 0 (pos 1000) (pos 1) 0) 11 [] 1 0 ∷
+    line 2560 0 (begins (pos 50) ++ (end7 0 ∷ [])) (call (ackCall 0 (pos 1000) (pos 1) 0)) 11 [] 1 0 ∷
     -- an order from before the fence
-    line 2560 0 (begins (pos 50) ++ (tickCall (pos 151) ∷ flushCall 187 ∷ [])) ack7 11 [] 1 0 ∷
+    line 2560 0 (begins (pos 50) ++ (call (tickCall (pos 151)) ∷ call (flushCall 187) ∷ [])) ack7 11 [] 1 0 ∷
     -- "12 not flushed": of a BEGIN 13 and 18 would apply too; a prepare; a repeated Ack after the complete record, where 13 would apply too
-    line 2560 0 (holds7 ++ (join ∷ [])) (ackCall 0 (pos 1000) (pos 0) 8) 12 [] 1 0 ∷
+    line 2560 0 (holds7 ++ (join ∷ [])) (call (ackCall 0 (pos 1000) (pos 0) 8)) 12 [] 1 0 ∷
     line 2560 0 (begins (pos 50) ++ (end7 0 ∷ [])) ack7 12 [] 1 0 ∷
     line 2560 8 (prepares 0 ++ (mark 0 ∷ ack7 ∷ [])) ack7 12 [] 1 0 ∷
     -- "status other than 2, 3 is 13": 18 would apply too
     line 2560 0 holds7 ack7 13 [] 1 0 ∷
-    line 2560 0 (begins (pos 50)) (ackCall 0 (pos 1000) (pos 0) 8) 13 [] 1 0 ∷
+    line 2560 0 (begins (pos 50)) (call (ackCall 0 (pos 1000) (pos 0) 8)) 13 [] 1 0 ∷
     line 2560 8 (completes 0) ack7 13 [] 1 0 ∷
     line 2560 8 (completes 1) ack7 13 [] 1 0 ∷
     -- "18 position not joined"
-    line 2560 8 (prepares 0) (ackCall 0 (pos 1000) (pos 0) 8) 18 [] 1 0 ∷
-    line 2560 8 (prepares 1) (ackCall 0 (pos 1000) (pos 0) 1) 18 [] 1 0 ∷
+    line 2560 8 (prepares 0) (call (ackCall 0 (pos 1000) (pos 0) 8)) 18 [] 1 0 ∷
+    line 2560 8 (prepares 1) (call (ackCall 0 (pos 1000) (pos 0) 1)) 18 [] 1 0 ∷
     []
 
 -- Produce
@@ -305,7 +306,7 @@ produceRefusals =
     from (rigTable Begin 0 1) (closedProducer 1000 0 9) [] (putAt (pos 9)) 20 [] 1 0 ∷
     from (rigTable Begin 0 1) (closedProducer 1000 0 9) [] (putAt (pos 3)) 20 [] 1 0 ∷
     -- the same after a marker of the same epoch
-    line 2560 40 (completes 0 ++ (join ∷ flushCall 307 ∷ [])) put 20 [] 1 0 ∷
+    line 2560 40 (completes 0 ++ (join ∷ call (flushCall 307) ∷ [])) put 20 [] 1 0 ∷
     -- "19 sequence ahead": in the first two 22 would apply too
     line 2560 4 (begins (pos 50)) (putAt (pos 1)) 19 [] 1 0 ∷
     line 2560 8 (begins (pos 50) ++ (put ∷ [])) (putAt (pos 2)) 19 [] 1 0 ∷
@@ -372,13 +373,13 @@ refusalLines =
 abbrev pub kind : Call → ℕ
 kind (openLog text n epoch first last) = 0
 kind openWords = 1
-kind (initCall name timeout time) = 2
-kind (addCall name pid epoch set time) = 3
-kind (endCall name pid epoch verdict time) = 4
-kind (tickCall time) = 5
-kind (flushCall n) = 6
+kind (call (initCall name timeout time)) = 2
+kind (call (addCall name pid epoch set time)) = 3
+kind (call (endCall name pid epoch verdict time)) = 4
+kind (call (tickCall time)) = 5
+kind (call (flushCall n)) = 6
 kind (orderCall up) = 7
-kind (ackCall place pid epoch position) = 8
+kind (call (ackCall place pid epoch position)) = 8
 kind (produceCall name pid epoch position sequence payload) = 9
 kind (markerCall place pid epoch verdict coordinator) = 10
 kind (readCall from) = 11
@@ -395,4 +396,4 @@ runsAfter a (b ∷ l) = let rest = runsAfter b l in cond (eqb a b) rest (b ∷ r
 
 -- the refusals that the table shows of a call, in its order
 abbrev pub refusalsShown : Call → List ℕ
-refusalsShown call = runsAfter 0 (numbersShown (kind call) refusalLines)
+refusalsShown c = runsAfter 0 (numbersShown (kind c) refusalLines)

@@ -19,7 +19,8 @@ use Rattle.coordinator.specs.Open.{blankState, takenOver}
 use Rattle.partition.specs.Partition.{openPartition, noProducer}
 use Rattle.partition.specs.declared.Partition.{Partition}
 use Rattle.partition.specs.declared.Producer.{Producer}
-use Rattle.server.specs.Calls.{Server, Call, openLog, openWords, initCall, addCall, endCall, flushCall, ackCall, produceCall, markerCall}
+use Rattle.coordinator.specs.Calls.{initCall, addCall, endCall, flushCall, ackCall}
+use Rattle.server.specs.Calls.{Server, Call, openLog, openWords, call, produceCall, markerCall}
 use Rattle.server.specs.Lines.{Line, lineFrom, catalogueText, rig7, opened, init7, join, begins, put}
 
 -- ---- calls of `rig7`, which comes first and has place 0 and pid 1000
@@ -30,11 +31,11 @@ reopened n = openLog catalogueText n (pos 2) (pos 1000) (pos 1999)
 
 -- Add of this set in epoch 0
 abbrev pub add7 : ℕ → Call
-add7 set = addCall rig7 (pos 1000) (pos 0) set (pos 110)
+add7 set = call (addCall rig7 (pos 1000) (pos 0) set (pos 110))
 
 -- End with this verdict in epoch 0
 abbrev pub end7 : ℕ → Call
-end7 verdict = endCall rig7 (pos 1000) (pos 0) verdict (pos 120)
+end7 verdict = call (endCall rig7 (pos 1000) (pos 0) verdict (pos 120))
 
 -- Produce with this sequence at partition 0 of `scan` in epoch 0
 abbrev pub putAt : ℤ → Call
@@ -49,23 +50,23 @@ abbrev pub mark : ℕ → Call
 mark verdict = markerCall 0 (pos 1000) (pos 0) verdict (pos 1)
 
 abbrev pub ack7 : Call
-ack7 = ackCall 0 (pos 1000) (pos 0) 0
+ack7 = call (ackCall 0 (pos 1000) (pos 0) 0)
 
 -- the calls that bring it into EMPTY, flushed; its record ends at 53
 abbrev pub holds7 : List Call
-holds7 = opened ∷ openWords ∷ init7 (pos 50) ∷ flushCall 53 ∷ []
+holds7 = opened ∷ openWords ∷ init7 (pos 50) ∷ call (flushCall 53) ∷ []
 
 -- into a prepare of this verdict, of one partition, flushed; an entry is written before; its record ends at 187
 abbrev pub prepares : ℕ → List Call
-prepares verdict = begins (pos 50) ++ (put ∷ end7 verdict ∷ flushCall 187 ∷ [])
+prepares verdict = begins (pos 50) ++ (put ∷ end7 verdict ∷ call (flushCall 187) ∷ [])
 
 -- into the complete record of this verdict, flushed; it ends at 240
 abbrev pub completes : ℕ → List Call
-completes verdict = prepares verdict ++ (mark verdict ∷ ack7 ∷ flushCall 240 ∷ [])
+completes verdict = prepares verdict ++ (mark verdict ∷ ack7 ∷ call (flushCall 240) ∷ [])
 
 -- into a prepare of COMMIT of two partitions, `scan` 0 and `cert` 0, flushed; it ends at 215
 abbrev pub preparesTwo : List Call
-preparesTwo = holds7 ++ (add7 257 ∷ flushCall 134 ∷ end7 0 ∷ flushCall 215 ∷ [])
+preparesTwo = holds7 ++ (add7 257 ∷ call (flushCall 134) ∷ end7 0 ∷ call (flushCall 215) ∷ [])
 
 -- ---- calls of `lab3`, which comes second and has place 1 and pid 1001
 
@@ -73,13 +74,13 @@ abbrev pub lab3 : List ℕ
 lab3 = 108 ∷ 97 ∷ 98 ∷ 51 ∷ []
 
 abbrev pub init3 : Call
-init3 = initCall lab3 (pos 50) (pos 100)
+init3 = call (initCall lab3 (pos 50) (pos 100))
 
 abbrev pub add3 : ℕ → Call
-add3 set = addCall lab3 (pos 1001) (pos 0) set (pos 100)
+add3 set = call (addCall lab3 (pos 1001) (pos 0) set (pos 100))
 
 abbrev pub end3 : ℕ → Call
-end3 verdict = endCall lab3 (pos 1001) (pos 0) verdict (pos 120)
+end3 verdict = call (endCall lab3 (pos 1001) (pos 0) verdict (pos 120))
 
 abbrev pub put3 : Call
 put3 = produceCall lab3 (pos 1001) (pos 0) 0 (pos 0) 504
@@ -89,15 +90,15 @@ mark3 verdict = markerCall 1 (pos 1001) (pos 0) verdict (pos 1)
 
 -- both names in EMPTY, flushed; the log ends at 106
 abbrev pub holdsBoth : List Call
-holdsBoth = opened ∷ openWords ∷ init7 (pos 50) ∷ init3 ∷ flushCall 106 ∷ []
+holdsBoth = opened ∷ openWords ∷ init7 (pos 50) ∷ init3 ∷ call (flushCall 106) ∷ []
 
 -- both in a flushed BEGIN, `rig7` of partition 0 of `scan` and `lab3` of one partition; the log ends at 240
 abbrev pub beginsBoth : ℕ → List Call
-beginsBoth set = holdsBoth ++ (join ∷ add3 set ∷ flushCall 240 ∷ [])
+beginsBoth set = holdsBoth ++ (join ∷ add3 set ∷ call (flushCall 240) ∷ [])
 
 -- both in a flushed prepare, `rig7` of COMMIT and `lab3`, of partition 0 of `cert`, of ABORT; the log ends at 374
 abbrev pub preparesBoth : List Call
-preparesBoth = beginsBoth 256 ++ (end7 0 ∷ end3 1 ∷ flushCall 374 ∷ [])
+preparesBoth = beginsBoth 256 ++ (end7 0 ∷ end3 1 ∷ call (flushCall 374) ∷ [])
 
 -- ---- states given directly
 

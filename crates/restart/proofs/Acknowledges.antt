@@ -28,7 +28,8 @@ use Rattle.coordinator.specs.Coordinator.{admits, unflushed, keep, acknowledged
 use Rattle.coordinator.specs.Ack.{lastOutstanding, ackTests, ackRowTests, ackAction, ack}
 use Rattle.coordinator.specs.declared.Coordinator.{Coordinator}
 use Rattle.coordinator.proofs.AckCases.{ack-passed}
-use Rattle.writer.proofs.Decisions.{byAck}
+use Rattle.coordinator.specs.Calls.{ackCall}
+use Rattle.writer.proofs.Decisions.{byCall}
 use Rattle.writer.proofs.Written.{written-admits}
 use Rattle.runs.specs.History.{Order, orderCarried, History, Logged, recordsOf, contents, endOf, flushedOf, latestOf}
 use Rattle.runs.specs.World.{up, nothing, World, catalogueOf, withCarrying, withEvent, coordinatorDoes}
@@ -154,7 +155,7 @@ module _ (w : World) (i : Invariant w) (s : Coordinator) (u : w .phase ≡ up s)
         (λ l. acks-noted c h (i .told) s (acks-of w i s u) k0 (o .position) inside position-below row-prepares joined-small row-joins (way .waits) l n)))
 
     pub acked : Good w (coordinatorDoes (ack s (length (w .log)) k0 (o .pid) (o .epoch) (o .position) .action) s w)
-    acked = did w i s u (ack s (length (w .log)) k0 (o .pid) (o .epoch) (o .position) .action) (byAck k0 (o .pid) (o .epoch) (o .position) refl) well notes
+    acked = did w i s u (ack s (length (w .log)) k0 (o .pid) (o .epoch) (o .position) .action) (byCall (ackCall k0 (o .pid) (o .epoch) (o .position)) refl refl) well notes
 
 -- ---- with the event that the order is carried
 

@@ -2,34 +2,36 @@
 use Prim.Native.Nat.{ℕ, zero, suc, _+_, _-_, _*_, _^_, _≤_, _<_, min}
 use mathlib.Core.Path.{_≡_, refl, sym, ap, ap₂, _∙_}
 use mathlib.Core.Bool.{Bool, true, false, cond, _&&_, and-false, true≢false}
-use mathlib.Core.List.{List, [], _∷_, _++_, map, reverse, reverseAux, reverse-append}
+use mathlib.Core.List.{List, [], _∷_, _++_, map, reverse, reverseAux, reverse-append, map-map}
 use native.Mathlib.Omega.{arith}
 use lib.Dec.{eqb, leb, ltb}
+use lib.IntN.{pos}
 use lib.ListN.{length, take, getD, length-append, length-take, length-map, List·getD-append}
 use lib.Seq.{getD-take, getD-append-add, take-nil}
 use borrow.Author.Tests.{eqb-true, eqb-false, eq-eqb, ne-eqb, leb-true, leb-false, le-leb, lt-leb, lt-ltb, le-ltb, ltb-true, ltb-false}
 use Rattle.numbers.specs.Border.{toNat}
 use Rattle.numbers.proofs.Tests.{by-cases, and-left, and-right}
-use Rattle.search.specs.Search.{filter, Each}
+use Rattle.search.specs.Search.{isFound, found, filter, Each}
 use Rattle.answers.specs.Refusals.{firstRefusal}
-use Rattle.answers.specs.declared.ReadAnswer.the-variants.{Copied}
+use Rattle.answers.specs.Answers.{accepted}
 use Rattle.answers.proofs.Laws.{none-is}
 use Rattle.partition.specs.Limits.{entryWords}
 use Rattle.partition.specs.Partition.{admits, producerAt, noProducer, kindAt, payloadAt, oldest, stableEnd}
 use Rattle.partition.specs.Read.{standsUnder, committed, copy, readTests, copied, readAnswer, readOut}
 use Rattle.partition.specs.declared.Producer.{Producer}
 use Rattle.partition.proofs.Reserve.{admits-length}
-use Rattle.runs.specs.History.{Order, Produced, recordAppended, logFlushed, logCut, logOpened, orderGiven, markerWritten, orderCarried, entryWritten, History, producedIn, collect, collectWithBefore, endingBy, recordsOf, flushedOf, wordsOf}
+use Rattle.runs.specs.History.{Order, Produced, recordAppended, logFlushed, logCut, logOpened, orderGiven, markerWritten, orderCarried, entryWritten, History, producedIn, collect, collectWithBefore, endingBy, recordsOf, flushedOf, markerOver, wordsOf}
 use Rattle.runs.specs.World.{Leader, openLeader, World, catalogueOf, leaderAt, start, run}
-use Rattle.runs.specs.InEveryRun.{entriesBetween, kindOver, committedBetween, ReadsFrom, ReadsCommitted, InEveryRun}
+use Rattle.runs.specs.InEveryRun.{entriesBetween, committedBetween, offsets, payloads, ReadsFrom, ReadsCommitted, InEveryRun}
 use Rattle.runs.proofs.Admitted.{admits-exactly}
 use Rattle.restart.specs.Views.{Entry, entriesOf, underOf}
 use Rattle.restart.proofs.Lists.{In, here, each-in, in-each, each-filter, either}
-use Rattle.restart.proofs.Words.{under-words, words-next, words-quiet}
+use Rattle.restart.proofs.Words.{words-next, words-quiet}
+use Rattle.restart.proofs.Over.{under-over, over-commit, over-some}
 use Rattle.restart.proofs.Invariant.{placeIn, Owns, Invariant}
 use Rattle.restart.proofs.Produces.{own-at, words-length}
 use Rattle.restart.proofs.Steps.{always}
-use Rattle.restart.proofs.Holds.{each-at, markers-fit}
+use Rattle.restart.proofs.Holds.{each-at, stands-under}
 
 -- ---- lists
 
@@ -145,7 +147,7 @@ falling x [] i n q = tt
 falling x (recordAppended r end ∷ h) i n q = falling x h i n (q ∙ ap length (words-quiet x (recordAppended r end) h refl))
 falling x (logFlushed m ∷ h) i n q = falling x h i n (q ∙ ap length (words-quiet x (logFlushed m) h refl))
 falling x (logCut m ∷ h) i n q = falling x h i n (q ∙ ap length (words-quiet x (logCut m) h refl))
-falling x (logOpened ∷ h) i n q = falling x h i n (q ∙ ap length (words-quiet x logOpened h refl))
+falling x (logOpened epoch ∷ h) i n q = falling x h i n (q ∙ ap length (words-quiet x (logOpened epoch) h refl))
 falling x (orderGiven o ∷ h) i n q = falling x h i n (q ∙ ap length (words-quiet x (orderGiven o) h refl))
 falling x (markerWritten o ∷ h) i n q =
     either (eqb (o .position) x)
@@ -198,7 +200,7 @@ at-offset x o [] i n q b = absurd (let z : length (wordsOf x []) ≡ 0 = none x 
 at-offset x o (recordAppended r end ∷ h) i n q b = let w = words-quiet x (recordAppended r end) h refl in same-at x o h (recordAppended r end ∷ h) w refl (at-offset x o h i n (q ∙ ap length w) b)
 at-offset x o (logFlushed m ∷ h) i n q b = let w = words-quiet x (logFlushed m) h refl in same-at x o h (logFlushed m ∷ h) w refl (at-offset x o h i n (q ∙ ap length w) b)
 at-offset x o (logCut m ∷ h) i n q b = let w = words-quiet x (logCut m) h refl in same-at x o h (logCut m ∷ h) w refl (at-offset x o h i n (q ∙ ap length w) b)
-at-offset x o (logOpened ∷ h) i n q b = let w = words-quiet x logOpened h refl in same-at x o h (logOpened ∷ h) w refl (at-offset x o h i n (q ∙ ap length w) b)
+at-offset x o (logOpened epoch ∷ h) i n q b = let w = words-quiet x (logOpened epoch) h refl in same-at x o h (logOpened epoch ∷ h) w refl (at-offset x o h i n (q ∙ ap length w) b)
 at-offset x o (orderGiven y ∷ h) i n q b = let w = words-quiet x (orderGiven y) h refl in same-at x o h (orderGiven y ∷ h) w refl (at-offset x o h i n (q ∙ ap length w) b)
 at-offset x o (orderCarried y ∷ h) i n q b = let w = words-quiet x (orderCarried y) h refl in same-at x o h (orderCarried y ∷ h) w refl (at-offset x o h i n (q ∙ ap length w) b)
 at-offset x o (markerWritten m ∷ h) i n q b =
@@ -228,6 +230,14 @@ at-offset x o (entryWritten e ∷ h) (i, is) n q b =
     (λ t. let w = no-entry-words x e h t in moved x o (wordsOf x h) (wordsOf x (entryWritten e ∷ h)) (dataIn h) (e ∷ dataIn h) (filter-miss (inRange x o (o + 1)) e (dataIn h) (rw t refl)) (rw w refl) (rw w refl) (at-offset x o h is n (q ∙ ap length w) b))
 
 -- ---- what Read copies
+
+-- the kind of the marker that an entry of a leader stands under, in the words
+abbrev kindOver : Leader → Produced → ℕ
+kindOver l e = standsUnder (l .words) (l .partition .end) (e .offset)
+
+-- the entries that stand under COMMIT in the words
+abbrev committedData : Leader → ℕ → ℕ → ℕ → History → List Produced
+committedData l x from end h = filter (λ (e : Produced). eqb (kindOver l e) 1) (reverse (filter (inRange x from end) (dataIn h)))
 
 -- no offset is in an empty range
 empty-range : (x o end : ℕ) → end ≤ o → (l : List Produced) → Each (λ (e : Produced). inRange x o end e ≡ false) l
@@ -264,13 +274,13 @@ module _ (w : World) (i : Invariant w) (x : ℕ) where
   isCommitted e = eqb (kindOver l e) 1
 
   abbrev from-to : ℕ → ℕ → List Produced
-  from-to o n = committedBetween l x o (o + n) h
+  from-to o n = committedData l x o (o + n) h
 
   -- one offset and the rest
   split : (o n : ℕ) → from-to o (suc n) ≡ filter isCommitted (reverse (filter (inRange x o (o + 1)) (dataIn h))) ++ from-to (o + 1) n
   split o n =
       let z : o + suc n ≡ o + 1 + n = omega arith in
-      ap (λ (k : ℕ). committedBetween l x o k h) z
+      ap (λ (k : ℕ). committedData l x o k h) z
       ∙ ap (λ (m : List Produced). filter isCommitted (reverse m)) (range-split x end o (o + 1 + n) (omega arith) (dataIn h) (falling x h (i .offsets) end size))
       ∙ ap (filter isCommitted) (reverse-append (filter (inRange x (o + 1) (o + 1 + n)) (dataIn h)) (filter (inRange x o (o + 1)) (dataIn h)))
       ∙ filter-join isCommitted (reverse (filter (inRange x o (o + 1)) (dataIn h))) (reverse (filter (inRange x (o + 1) (o + 1 + n)) (dataIn h)))
@@ -303,30 +313,30 @@ module _ (w : World) (i : Invariant w) (x : ℕ) where
           none-first : filter isCommitted [] ++ from-to (o + 1) n ≡ from-to (o + 1) n
           none-first = ap (λ (m : List Produced). m ++ from-to (o + 1) n) (filter-none isCommitted [] tt)
 
-  abbrev payloads : List Produced → List ℕ
-  payloads m = map (λ (e : Produced). e .payload) m
+  abbrev payloadsOf : List Produced → List ℕ
+  payloadsOf m = map (λ (e : Produced). e .payload) m
 
-  abbrev offsets : List Produced → List ℕ
-  offsets m = map (λ (e : Produced). e .offset) m
+  abbrev offsetsOf : List Produced → List ℕ
+  offsetsOf m = map (λ (e : Produced). e .offset) m
 
   pub record CopiedSo (o n room : ℕ) : Type 0 where
-    pub values : copy (l .words) end o n room .payloads ≡ take room (payloads (from-to o n))
-    pub next : copy (l .words) end o n room .next ≡ getD (offsets (from-to o n)) room (o + n)
+    pub values : copy (l .words) end o n room .payloads ≡ take room (payloadsOf (from-to o n))
+    pub next : copy (l .words) end o n room .next ≡ getD (offsetsOf (from-to o n)) room (o + n)
 
   copy-step : (o n room : ℕ) → Here o n → ((r : ℕ) → CopiedSo (o + 1) n r) → CopiedSo o (suc n) room
   unfolding copy
   copy-step o n zero (copies e q at y t) i = record { values = rw t refl; next = rw (t, q) (sym at) }
   copy-step o n (suc room) (copies e q at y t) i =
       let z : o + 1 + n ≡ o + suc n = omega arith in
-      record { values = rw (t, q, y) (ap (λ (m : List ℕ). e .payload ∷ m) (i room .values)); next = rw (t, q) (i room .next ∙ ap (getD (offsets (from-to (o + 1) n)) room) z) }
-  copy-step o n zero (passes q t) i = let z : o + 1 + n ≡ o + suc n = omega arith in record { values = rw t (i zero .values); next = rw (t, q) (i zero .next ∙ ap (getD (offsets (from-to (o + 1) n)) zero) z) }
+      record { values = rw (t, q, y) (ap (λ (m : List ℕ). e .payload ∷ m) (i room .values)); next = rw (t, q) (i room .next ∙ ap (getD (offsetsOf (from-to (o + 1) n)) room) z) }
+  copy-step o n zero (passes q t) i = let z : o + 1 + n ≡ o + suc n = omega arith in record { values = rw t (i zero .values); next = rw (t, q) (i zero .next ∙ ap (getD (offsetsOf (from-to (o + 1) n)) zero) z) }
   copy-step o n (suc room) (passes q t) i =
-      let z : o + 1 + n ≡ o + suc n = omega arith in record { values = rw (t, q) (i (suc room) .values); next = rw (t, q) (i (suc room) .next ∙ ap (getD (offsets (from-to (o + 1) n)) (suc room)) z) }
+      let z : o + 1 + n ≡ o + suc n = omega arith in record { values = rw (t, q) (i (suc room) .values); next = rw (t, q) (i (suc room) .next ∙ ap (getD (offsetsOf (from-to (o + 1) n)) (suc room)) z) }
 
   copy-is : (n o : ℕ) → o + n ≤ end → (room : ℕ) → CopiedSo o n room
   copy-is zero o b room =
       let none-left : from-to o 0 ≡ [] = ap (λ (m : List Produced). filter isCommitted (reverse m)) (filter-none (inRange x o (o + 0)) (dataIn h) (empty-range x o (o + 0) (omega arith) (dataIn h))) ∙ filter-none isCommitted [] tt in
-      record { values = copy-zero o room ∙ sym (ap (λ (m : List Produced). take room (payloads m)) none-left ∙ take-nothing room); next = (copy-next o room ∙ (let z : o ≡ o + 0 = omega arith in z)) ∙ sym (ap (λ (m : List Produced). getD (offsets m) room (o + 0)) none-left) }
+      record { values = copy-zero o room ∙ sym (ap (λ (m : List Produced). take room (payloadsOf m)) none-left ∙ take-nothing room); next = (copy-next o room ∙ (let z : o ≡ o + 0 = omega arith in z)) ∙ sym (ap (λ (m : List Produced). getD (offsetsOf m) room (o + 0)) none-left) }
     where
       copy-zero : (o room : ℕ) → copy (l .words) end o zero room .payloads ≡ []
       copy-zero o zero = unfold copy in refl
@@ -353,19 +363,63 @@ stable-row end [] k e = absurd (true≢false (sym e))
 stable-row end (q ∷ producers) zero e = rw e (omega arith)
 stable-row end (q ∷ producers) (suc k) e = let i = stable-row end producers k e in by-cases (λ (n : ℕ). n ≤ getD producers k noProducer .first) (q .ongoing) (λ t. omega arith) (λ t. i)
 
--- ---- every entry of the history
+-- ---- the entries with the events before them
 
-each-data : (P : Produced → Type 0) (h : History) → Each (λ (p : Entry). P (p .what)) (entriesOf h) → Each P (dataIn h)
+module _ {A B : Type 0} (f : A → B) where
+  filter-map : (p : B → Bool) (l : List A) → filter p (map f l) ≡ map f (filter (λ (x : A). p (f x)) l)
+  unfolding filter
+  filter-map p [] = refl
+  filter-map p (x ∷ l) = go (p (f x)) (filter-map p l)
+    where
+      go : (b : Bool) → filter p (map f l) ≡ map f (filter (λ (x : A). p (f x)) l)
+          → cond b (f x ∷ filter p (map f l)) (filter p (map f l)) ≡ map f (cond b (x ∷ filter (λ (x : A). p (f x)) l) (filter (λ (x : A). p (f x)) l))
+      go true e = ap (λ (m : List B). f x ∷ m) e
+      go false e = e
+
+  reverse-map : (l m : List A) → reverseAux (map f l) (map f m) ≡ map f (reverseAux l m)
+  reverse-map [] m = refl
+  reverse-map (x ∷ l) m = reverse-map l (x ∷ m)
+
+filter-same : {A : Type 0} (p q : A → Bool) (l : List A) → Each (λ (x : A). p x ≡ q x) l → filter p l ≡ filter q l
+unfolding filter
+filter-same p q [] i = refl
+filter-same p q (x ∷ l) (i, is) = rw (i, filter-same p q l is) refl
+
+abbrev whatOf : Entry → Produced
+whatOf e = e .what
+
+what-split : (h : History) (l : List Produced) (m : List Entry) → map whatOf (map (λ (a : Produced). record { what = a; before = h }) l ++ m) ≡ l ++ map whatOf m
+what-split h [] m = refl
+what-split h (x ∷ l) m = ap (λ (k : List Produced). x ∷ k) (what-split h l m)
+
+data-entries : (h : History) → dataIn h ≡ map whatOf (entriesOf h)
 unfolding collect collectWithBefore
-each-data P [] i = tt
-each-data P (recordAppended r end ∷ h) i = each-data P h i
-each-data P (logFlushed n ∷ h) i = each-data P h i
-each-data P (logCut n ∷ h) i = each-data P h i
-each-data P (logOpened ∷ h) i = each-data P h i
-each-data P (orderGiven o ∷ h) i = each-data P h i
-each-data P (markerWritten o ∷ h) i = each-data P h i
-each-data P (orderCarried o ∷ h) i = each-data P h i
-each-data P (entryWritten e ∷ h) (i, is) = (i, each-data P h is)
+data-entries [] = refl
+data-entries (e ∷ h) = ap (λ (l : List Produced). producedIn e ++ l) (data-entries h) ∙ sym (what-split h (producedIn e) (entriesOf h))
+
+-- those that stand under COMMIT in the words are those of the history
+module _ (w : World) (i : Invariant w) (x from end : ℕ) where
+  abbrev between : List Entry
+  between = entriesBetween x from end (w .history)
+
+  same-kinds : Each (λ (e : Entry). eqb (kindOver (leaderAt w x) (e .what)) 1 ≡ found (λ (m : Order). eqb (m .verdict) 0) (markerOver (w .history) e)) between
+  same-kinds =
+      each-reverse _ (filter (λ (e : Entry). inRange x from end (e .what)) (entriesOf (w .history))) []
+      (each-filter _ (λ (e : Entry). inRange x from end (e .what)) (entriesOf (w .history))
+      (in-each _ (entriesOf (w .history)) (λ e j t.
+      let at : e .what .position ≡ x = eqb-true (e .what .position) x (search (and-left, and-right)) in
+      ap (λ (k : ℕ). eqb k 1) (ap (λ (y : ℕ). kindOver (leaderAt w y) (e .what)) (sym at) ∙ stands-under w i e j) ∙ over-commit (markerOver (w .history) e)))) tt
+
+  committed-entries : committedData (leaderAt w x) x from end (w .history) ≡ map whatOf (committedBetween x from end (w .history))
+  committed-entries =
+      let E = entriesOf (w .history) in
+      let inside : Entry → Bool = λ e. inRange x from end (e .what) in
+      let under : Produced → Bool = λ e. eqb (kindOver (leaderAt w x) e) 1 in
+      ap (λ (l : List Produced). filter under (reverse (filter (inRange x from end) l))) (data-entries (w .history))
+      ∙ ap (λ (l : List Produced). filter under (reverse l)) (filter-map whatOf (inRange x from end) E)
+      ∙ ap (filter under) (reverse-map whatOf (filter inside E) [])
+      ∙ filter-map whatOf under between
+      ∙ ap (map whatOf) (filter-same (λ (e : Entry). under (e .what)) (λ (e : Entry). found (λ (m : Order). eqb (m .verdict) 0) (markerOver (w .history) e)) between same-kinds)
 
 module _ (w : World) (i : Invariant w) (x : ℕ) where
   abbrev leader : Leader
@@ -375,23 +429,18 @@ module _ (w : World) (i : Invariant w) (x : ℕ) where
   stable = stableEnd (leader .partition)
 
   -- below the stable end every entry stands under a marker
-  settled-at : Each (λ (e : Produced). kindOver leader e ≡ 0 → ⊥) (entriesBetween x 0 stable (w .history))
+  settled-at : Each (λ (e : Entry). isFound (markerOver (w .history) e) ≡ true) (entriesBetween x 0 stable (w .history))
   settled-at =
-      each-reverse (λ (e : Produced). kindOver leader e ≡ 0 → ⊥) (filter (inRange x 0 stable) (dataIn (w .history))) []
-      (each-filter (λ (e : Produced). kindOver leader e ≡ 0 → ⊥) (inRange x 0 stable) (dataIn (w .history))
-      (each-data (λ (e : Produced). inRange x 0 stable e ≡ true → kindOver leader e ≡ 0 → ⊥) (w .history)
-      (in-each _ (entriesOf (w .history)) (λ d j t z. go d j t z)))) tt
+      each-reverse _ (filter (λ (e : Entry). inRange x 0 stable (e .what)) (entriesOf (w .history))) []
+      (each-filter _ (λ (e : Entry). inRange x 0 stable (e .what)) (entriesOf (w .history))
+      (in-each _ (entriesOf (w .history)) (λ d j t. over-some (markerOver (w .history) d) (λ z. go d j t (under-over (w .history) d ∙ z))))) tt
     where
-      go : (d : Entry) → In d (entriesOf (w .history)) → inRange x 0 stable (d .what) ≡ true → kindOver leader (d .what) ≡ 0 → ⊥
+      go : (d : Entry) → In d (entriesOf (w .history)) → inRange x 0 stable (d .what) ≡ true → underOf (w .history) d ≡ 0 → ⊥
       go d j t z =
           let h = w .history in
           let at : d .what .position ≡ x = eqb-true (d .what .position) x (search (and-left, and-right)) in
           let low : d .what .offset < stable = ltb-true (d .what .offset) stable (search (and-left, and-right)) in
-          let here : entryWords * d .what .offset ≡ length (wordsOf (d .what .position) (d .before)) = each-in (λ (p : Entry). entryWords * p .what .offset ≡ length (wordsOf (p .what .position) (p .before))) (entriesOf h) d (i .offsets) j in
-          let words : take (entryWords * leader .partition .end) (leader .words) ≡ wordsOf (d .what .position) h = i .leaders x .words ∙ ap (λ (y : ℕ). wordsOf y h) (sym at) in
-          let long : entryWords * leader .partition .end ≡ length (wordsOf (d .what .position) h) = words-length w i x ∙ ap (λ (y : ℕ). length (wordsOf y h)) (sym at) in
-          let under : standsUnder (leader .words) (leader .partition .end) (d .what .offset) ≡ underOf h d = under-words h (markers-fit h (i .told .for-prepare)) d j here (leader .words) (leader .partition .end) words long in
-          let owns = each-in (λ (e : Entry). e .what .position ≡ x → underOf h e ≡ 0 → Owns (producerAt (leader .partition) (placeIn (catalogueOf w) (endingBy (flushedOf h) (recordsOf h)) (e .what .name))) e) (entriesOf h) d (i .leaders x .rows .entry-row (flushedOf h) (omega arith)) j at (sym under ∙ z) in
+          let owns = each-in (λ (e : Entry). e .what .position ≡ x → underOf h e ≡ 0 → Owns (producerAt (leader .partition) (placeIn (catalogueOf w) (endingBy (flushedOf h) (recordsOf h)) (e .what .name))) e) (entriesOf h) d (i .leaders x .rows .entry-row (flushedOf h) (omega arith)) j at z in
           let row = stable-row (leader .partition .end) (leader .partition .producers) _ (owns .ongoing) in
           omega (arith, owns .first)
 
@@ -408,23 +457,30 @@ module _ (w : World) (i : Invariant w) (x : ℕ) where
     whole : from + (stable - from) ≡ stable
     whole = omega arith
 
-    abbrev entries : List Produced
-    entries = committedBetween leader x from stable (w .history)
+    abbrev entries : List Entry
+    entries = committedBetween x from stable (w .history)
 
     is : CopiedSo w i x from (stable - from) (length out)
     is = copy-is w i x (stable - from) from (let m = stable-most (leader .partition .end) (leader .partition .producers) in omega arith) (length out)
 
-    values-is : copied (leader .partition) (leader .words) from (length out) .payloads ≡ take (length out) (map (λ (e : Produced). e .payload) entries)
-    values-is = is .values ∙ ap (λ (n : ℕ). take (length out) (map (λ (e : Produced). e .payload) (committedBetween leader x from n (w .history)))) whole
+    -- the entries up to the stable end
+    data-is : committedData leader x from (from + (stable - from)) (w .history) ≡ map whatOf entries
+    data-is = ap (λ (n : ℕ). committedData leader x from n (w .history)) whole ∙ committed-entries w i x from stable
 
-    next-is : copied (leader .partition) (leader .words) from (length out) .next ≡ getD (map (λ (e : Produced). e .offset) entries) (length out) stable
-    next-is = is .next ∙ ap (λ (n : ℕ). getD (map (λ (e : Produced). e .offset) (committedBetween leader x from n (w .history))) (length out) n) whole
+    values-is : copied (leader .partition) (leader .words) from (length out) .payloads ≡ take (length out) (payloads entries)
+    values-is = is .values ∙ ap (λ (l : List Produced). take (length out) (map (λ (e : Produced). e .payload) l)) data-is ∙ ap (take (length out)) (map-map (λ (e : Produced). e .payload) whatOf entries)
+
+    next-is : copied (leader .partition) (leader .words) from (length out) .next ≡ getD (offsets entries) (length out) stable
+    next-is =
+        is .next ∙ ap (λ (l : List Produced). getD (map (λ (e : Produced). e .offset) l) (length out) (from + (stable - from))) data-is
+        ∙ ap (λ (l : List ℕ). getD l (length out) (from + (stable - from))) (map-map (λ (e : Produced). e .offset) whatOf entries)
+        ∙ ap (getD (offsets entries) (length out)) whole
 
     reads-at : ReadsFrom w x leader from out
     unfolding readAnswer readOut
     reads-at =
         record {
-          answers = rw (eq-eqb (firstRefusal (readTests (leader .partition) (length (leader .words)) from)) 0 passes-read, values-is, next-is) (ap (λ (n : ℕ). Copied n (getD (map (λ (e : Produced). e .offset) entries) (length out) stable)) (length-take (length out) (map (λ (e : Produced). e .payload) entries) ∙ ap (min (length out)) (length-map entries (λ (e : Produced). e .payload))));
+          answers = rw (eq-eqb (firstRefusal (readTests (leader .partition) (length (leader .words)) from)) 0 passes-read, values-is, next-is) (ap (λ (n : ℕ). accepted (pos n ∷ pos (getD (offsets entries) (length out) stable) ∷ [])) (length-take (length out) (payloads entries) ∙ ap (min (length out)) (length-map entries (λ (e : Entry). e .what .payload))));
           copies = rw (eq-eqb (firstRefusal (readTests (leader .partition) (length (leader .words)) from)) 0 passes-read, values-is) refl;
         }
 
@@ -433,7 +489,8 @@ module _ (w : World) (i : Invariant w) (x : ℕ) where
 pub reads-committed : (w : World) → Invariant w → ReadsCommitted w
 reads-committed w i =
     record {
-      settled = each-at (λ x (l : Leader). Each (λ (e : Produced). kindOver l e ≡ 0 → ⊥) (entriesBetween x 0 (stableEnd (l .partition)) (w .history))) (openLeader []) 0 (w .leaders) (λ x. let z : 0 + x ≡ x = omega arith in rw z (settled-at w i x));
+      stands-under = in-each _ (entriesOf (w .history)) (λ e j. stands-under w i e j);
+      settled = each-at (λ x (l : Leader). Each (λ (e : Entry). isFound (markerOver (w .history) e) ≡ true) (entriesBetween x 0 (stableEnd (l .partition)) (w .history))) (openLeader []) 0 (w .leaders) (λ x. let z : 0 + x ≡ x = omega arith in rw z (settled-at w i x));
       reads = each-at (λ x (l : Leader). (from : ℕ) → from ≤ stableEnd (l .partition) → (out : List ℕ) → ReadsFrom w x l from out) (openLeader []) 0 (w .leaders) (λ x. let z : 0 + x ≡ x = omega arith in rw z (reads-at w i x));
     }
 

@@ -2,7 +2,7 @@
 use Prim.Native.Nat.{ℕ, _+_, _-_, _<_, _^_}
 use mathlib.Core.Path.{_≡_, refl, sym, ap, subst, _∙_}
 use mathlib.Core.Logic.{_≢_}
-use mathlib.Core.Bool.{true, false, true≢false}
+use mathlib.Core.Bool.{true, false, not, true≢false}
 use mathlib.Core.List.{List, [], _∷_}
 use mathlib.Core.Option.{none, some}
 use native.Mathlib.Decide.{ℕ-discrete}
@@ -11,7 +11,7 @@ use lib.Dec.{eqb}
 use lib.IntN.{ℤ, pos}
 use lib.ListN.{length}
 use lib.Signed.{leZ}
-use borrow.Author.Tests.{eq-eqb, ne-eqb, eqb-true}
+use borrow.Author.Tests.{eq-eqb, ne-eqb, eqb-true, not-true}
 use Rattle.numbers.proofs.Tests.{not-both, and-left, and-right}
 use Rattle.bits.specs.Bits.{count, difference, insert}
 use Rattle.bits.proofs.Laws.{count-left, member-true, member-false}
@@ -23,18 +23,15 @@ use Rattle.row.specs.Row.{isPrepare, outstanding, recordOf}
 use Rattle.row.specs.Steps.{completed}
 use Rattle.row.specs.declared.Row.{Row}
 use Rattle.search.specs.Search.{found}
-use Rattle.answers.specs.Answers.{openReply}
-use Rattle.answers.specs.Refusals.{firstRefusal, Decision}
+use Rattle.answers.specs.Refusals.{Decision}
 use Rattle.answers.specs.declared.Answer.{Answer}
-use Rattle.answers.specs.declared.Answer.the-variants.{Refused}
-use Rattle.answers.proofs.Laws.{unless-does}
 use Rattle.table.specs.Table.{rowAt, placeOf, placeFor}
 use Rattle.table.proofs.Laws.{with-other}
 use Rattle.table.proofs.Records.{come-place}
 use Rattle.table.proofs.Unacknowledged.{unacknowledged, plain-place-for}
 use Rattle.coordinator.specs.Coordinator.{logEnd, rowFrame, Action, keep, advance, append, acknowledge as acknowledgeAt, flushTo, appended, acknowledged, after, logAfter}
 use Rattle.coordinator.specs.Ack.{lastOutstanding, ack}
-use Rattle.coordinator.specs.Flush.{flushTests, flush}
+use Rattle.coordinator.specs.Flush.{flush}
 use Rattle.coordinator.specs.Order.{order}
 use Rattle.coordinator.specs.Open.{opening}
 use Rattle.coordinator.specs.declared.Coordinator.{Coordinator}
@@ -42,12 +39,14 @@ use Rattle.coordinator.proofs.AckCases.{ack-completed, ack-noted, acknowledged-
 use Rattle.partition.specs.Partition.{Action as PartitionAction, keep as keepPartition, note, write}
 use Rattle.partition.specs.Marker.{marker}
 use Rattle.server.specs.Produce.{produce}
-use Rattle.writer.specs.LogCalls.{LogCall, actionOf}
-use Rattle.writer.proofs.Decisions.{Decided, byCall, byFlush}
+use Rattle.coordinator.specs.Calls.{CoordinatorCall, initCall, addCall, endCall, tickCall, flushCall, ackCall, callTyped, actionOf}
+use Rattle.writer.specs.Writer.{openingReply}
+use Rattle.writer.proofs.Decisions.{Decided, byCall}
 use Rattle.writer.proofs.Lawful.{Lawful, decided-lawful}
 use Rattle.runs.specs.History.{Order, Produced, Event, recordAppended, logFlushed, logOpened, orderGiven, markerWritten, orderCarried, entryWritten, History, carriedIn, collect, Logged, recordsOf, latestOf, nextOf, listed, isCompleted, carriedFor}
-use Rattle.runs.specs.World.{Phase, up, down, Carrying, nothing, toAcknowledge, World, catalogueOf, leaderAt, own, another, Item, call, callFlush, callOrder, callProduce, callRead, deliver, acknowledge, cut, reopen, typed, withEvent, withState, lentPartition, leaderDoes, historyAfter, historyWritten, coordinatorDoes, next, step}
+use Rattle.runs.specs.World.{Phase, up, down, Carrying, nothing, toAcknowledge, World, catalogueOf, leaderAt, own, another, Item, call, callOrder, callProduce, callRead, deliver, acknowledge, cut, reopen, isAck, inLists, withEvent, coordinatorElsewhere, lentPartition, leaderDoes, historyAfter, historyWritten, coordinatorDoes, next, step}
 use Rattle.runs.specs.Demand3.{Undisturbed}
+use Rattle.runs.proofs.Leaves.{flush-elsewhere}
 use Rattle.runs.proofs.Cases.{step-cases, while-up-cases, lent-cases, leader-cases, deliverable-cases, acknowledgeable-cases, read-cases, reopened-cases, answered-cases}
 use Rattle.restart.specs.Told.{Told}
 use Rattle.restart.proofs.Lists.{In, each-in, some-same, find-passes, either}
@@ -61,7 +60,7 @@ use Rattle.restart.proofs.Good.{log-of, acks-of}
 use Rattle.restart.proofs.Delivers.{place-below}
 use Rattle.restart.proofs.Acknowledges.{it, row-is, ack-passes, row-joins, joined-small, position-below}
 use Rattle.restart.proofs.RowsMarked.{for-latest}
-use Rattle.restart.proofs.Restarts.{opening-valid, call-refused, not-admitted}
+use Rattle.restart.proofs.Restarts.{opening-valid, takesLog, call-refused, not-admitted}
 use Rattle.restart.proofs.Tally.{difference-none, leftOf, Tally, over, waits, tally-same, tally-other, tally-over, completed-now, left-appended, place-acknowledged, carried-more}
 
 module _ (p : Logged) (prepares : isPrepare (p .content .status) ≡ true) (n : ℕ) (w : World) (i : Invariant w) (stands : In p (recordsOf (w .history))) (t : Tally p n (w .phase) (w .history)) where
@@ -280,8 +279,8 @@ module _ (p : Logged) (prepares : isPrepare (p .content .status) ≡ true) (n : 
 
   -- ---- an opening after a cut
 
-  reopened : (m before : ℕ) → w .phase ≡ down m before → (epoch first last : ℤ) → openReply (opening (w .text) (w .log) m epoch first last .answer) .number ≡ 0
-      → (v : World) → v .phase ≡ up (opening (w .text) (w .log) m epoch first last .state) → v .history ≡ logOpened ∷ h → v .text ≡ w .text → Counts v
+  reopened : (m before : ℕ) → w .phase ≡ down m before → (epoch first last : ℤ) → openingReply (w .text) (w .log) m epoch first last .number ≡ 0
+      → (v : World) → v .phase ≡ up (opening (w .text) (w .log) m epoch first last .state) → v .history ≡ logOpened epoch ∷ h → v .text ≡ w .text → Counts v
   reopened m before u epoch first last accepted v e f g j = go (subst (λ (y : Phase). Tally p n y h) u t)
     where
       s : Coordinator
@@ -291,7 +290,7 @@ module _ (p : Logged) (prepares : isPrepare (p .content .status) ≡ true) (n : 
       records = ap recordsOf f ∙ (unfold recordsOf in refl)
 
       carried : collect carriedIn (v .history) ≡ collect carriedIn h
-      carried = ap (collect carriedIn) f ∙ collect-quiet carriedIn logOpened h refl
+      carried = ap (collect carriedIn) f ∙ collect-quiet carriedIn (logOpened epoch) h refl
 
       log-up : UpLog c (v .log) s (v .history)
       log-up = subst (λ (y : List ℕ). UpLog (parse y .catalogue) (v .log) s (v .history)) g (subst (λ (y : Phase). LogSide (catalogueOf v) (v .log) y (v .history)) e (j .log-side))
@@ -316,43 +315,46 @@ module _ (p : Logged) (prepares : isPrepare (p .content .status) ≡ true) (n : 
   carrying-of : (s : Coordinator) → w .phase ≡ up s → (k : Carrying) → w .carrying ≡ k → CarryingSide c h (up s) k
   carrying-of s u k e = subst (λ (y : Phase). CarryingSide c h y k) u (subst (CarryingSide c h (w .phase)) e (i .carried))
 
-  next-counts : (x : Item) → typed x ≡ true → Undisturbed (c .all) x → Counts (next x w)
-  next-counts (call lent k) typed-so d =
+  next-counts : (x : Item) → inLists x ≡ true → Undisturbed (c .all) x → Counts (next x w)
+  next-counts (call lent k) so d =
       while-up-cases Counts w same-world _ (λ s u. lent-cases Counts w same-world lent (actionOf k s) s
-      (λ o. acts s u (actionOf k s (length (w .log))) (byCall k typed-so refl) (call-settled s (live-ready c (w .log) s h (log-of w i s u) (i .told)) (length (w .log)) k))
+      (λ o. acts s u (actionOf k s (length (w .log))) (byCall k (and-left (callTyped k) (not (isAck k)) so) refl) (call-settled s (live-ready c (w .log) s h (log-of w i s u) (i .told)) (length (w .log)) k (not-true (isAck k) (and-right (callTyped k) (not (isAck k)) so))))
       (λ m e. elsewhere s u m e k))
     where
-      elsewhere : (s : Coordinator) (u : w .phase ≡ up s) (m : ℕ) → (m ≡ length (w .log) → ⊥) → (k : LogCall) → Counts (withState w (after (actionOf k s m) s))
-      elsewhere s u m e k =
-          rw (call-refused s m (not-admitted w i s u m e) k) (resting (withState w s) (sym u) refl refl)
-  next-counts (callFlush m) typed-so d =
-      while-up-cases Counts w same-world _ (λ s u. acts s u (flush s m .action) (byFlush m refl) (flush-settled s m))
-    where
-      flush-settled : (s : Coordinator) (m : ℕ) → Settled s (flush s m .action)
-      flush-settled s m = unfold flush in unless-does (firstRefusal (flushTests s m)) Refused keep _ (Settled s) tt (λ e. tt)
-  next-counts (callOrder set) typed-so d =
+      refused : (s : Coordinator) (u : w .phase ≡ up s) (m : ℕ) → (m ≡ length (w .log) → ⊥) → (k : CoordinatorCall) → takesLog k ≡ true → Counts (coordinatorElsewhere (actionOf k s m) s w)
+      refused s u m e k b = rw (call-refused s m (not-admitted w i s u m e) k b) (resting (coordinatorElsewhere keep s w) (sym u) refl refl)
+
+      elsewhere : (s : Coordinator) (u : w .phase ≡ up s) (m : ℕ) → (m ≡ length (w .log) → ⊥) → (k : CoordinatorCall) → Counts (coordinatorElsewhere (actionOf k s m) s w)
+      elsewhere s u m e (initCall name timeout time) = refused s u m e (initCall name timeout time) refl
+      elsewhere s u m e (addCall name pid epoch set time) = refused s u m e (addCall name pid epoch set time) refl
+      elsewhere s u m e (endCall name pid epoch verdict time) = refused s u m e (endCall name pid epoch verdict time) refl
+      elsewhere s u m e (tickCall time) = refused s u m e (tickCall time) refl
+      elsewhere s u m e (flushCall length) =
+          subst Counts (sym (flush-elsewhere length s w)) (acts s u (flush s length .action) (byCall (flushCall length) refl refl) (call-settled s (live-ready c (w .log) s h (log-of w i s u) (i .told)) 0 (flushCall length) refl))
+      elsewhere s u m e (ackCall place pid epoch position) = refused s u m e (ackCall place pid epoch position) refl
+  next-counts (callOrder set) so d =
       while-up-cases Counts w same-world _
       (λ s u. answered-cases Counts w s (order s set) (resting _ refl refl refl)
       (λ place pid epoch verdict position coordinator e. resting _ refl (records-given _) (collect-quiet carriedIn (orderGiven _) h refl)))
-  next-counts (callProduce lent other name pid epoch position sequence payload) typed-so d =
+  next-counts (callProduce lent other name pid epoch position sequence payload) so d =
       while-up-cases Counts w same-world _
       (λ s u. leader-cases Counts w same-world lent _ _ _ _
       (λ o. let x = lentPartition s position other in
       led x (produce s (leaderAt w x .partition) (length (leaderAt w x .words)) name pid epoch position sequence payload .action) (entryWritten _) nothing (records-entry _) refl)
       (λ m e. resting _ refl refl refl))
-  next-counts (callRead lent x from out) typed-so d = while-up-cases Counts w same-world _ (λ s u. read-cases Counts w same-world lent x (resting _ refl refl refl))
-  next-counts (deliver lent m) typed-so d =
+  next-counts (callRead lent x from out) so d = while-up-cases Counts w same-world _ (λ s u. read-cases Counts w same-world lent x (resting _ refl refl refl))
+  next-counts (deliver lent m) so d =
       while-up-cases Counts w same-world _
       (λ s u. deliverable-cases Counts w same-world m _
       (λ o e. leader-cases Counts w same-world lent (o .position) _ _ _ (λ l. let y = leaderAt w (o .position) in
       led (o .position) (marker (y .partition) (length (y .words)) (o .place) (o .pid) (o .epoch) (o .verdict) (o .coordinator) .action) (markerWritten o) _ (records-marker o) refl) (λ k f. resting _ refl refl refl)))
-  next-counts (acknowledge own m) typed-so d =
+  next-counts (acknowledge own m) so d =
       while-up-cases Counts w same-world _ (λ s u. acknowledgeable-cases Counts w same-world m _ (λ o e. acked s u o (carrying-of s u (toAcknowledge m o) e .0)))
-  next-counts (acknowledge (another slice) m) typed-so d = absurd d
-  next-counts (cut m) typed-so d = absurd d
-  next-counts (reopen epoch first last) typed-so d =
+  next-counts (acknowledge (another slice) m) so d = absurd d
+  next-counts (cut m) so d = absurd d
+  next-counts (reopen epoch first last) so d =
       reopened-cases Counts w same-world epoch first last
-      (λ m before u e. reopened m before u epoch first last (eqb-true _ 0 (and-left (eqb (openReply (opening (w .text) (w .log) m epoch first last .answer) .number) 0) (leZ (pos before) epoch) e)) _ refl refl refl)
+      (λ m before u e. reopened m before u epoch first last (eqb-true _ 0 (and-left (eqb (openingReply (w .text) (w .log) m epoch first last .number) 0) (leZ (pos before) epoch) e)) _ refl refl refl)
 
   pub step-counts : (x : Item) → Undisturbed (c .all) x → Invariant (step x w) → Tally p n (step x w .phase) (step x w .history)
   step-counts x d = step-cases Counts x w same-world (λ e. next-counts x e d)

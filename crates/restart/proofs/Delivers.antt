@@ -27,6 +27,7 @@ use Rattle.answers.specs.Refusals.{firstRefusal}
 use Rattle.answers.proofs.Laws.{none-is}
 use Rattle.table.specs.Table.{rowAt}
 use Rattle.log_reader.specs.Records.{tableOf}
+use Rattle.answers.specs.Answers.{reply}
 use Rattle.coordinator.specs.declared.Coordinator.{Coordinator}
 use Rattle.partition.specs.Limits.{entryWords}
 use Rattle.partition.specs.Marker.{markerTests, closed, markerEntry, closeTransaction, marker}
@@ -277,7 +278,7 @@ module _ (w : World) (i : Invariant w) (s : Coordinator) (u : w .phase ≡ up s)
         none-left =
             rw (records, same-entries) (in-each _ (entriesOf h) (λ y j a b g. marked-none c h (i .told) o r (its .there) f k0 (its .place) k (omega arith) y j a (ap (λ (l : List Logged). placeIn c l (y .what .name)) view ∙ g) b))
 
-  pub delivers-own : (n : ℕ) → Good w (leaderDoes x (marker p (length words) k0 (o .pid) (o .epoch) (o .verdict) (o .coordinator) .action) (markerWritten o) (onceDone (marker p (length words) k0 (o .pid) (o .epoch) (o .verdict) (o .coordinator) .answer) n o) w)
+  pub delivers-own : (n : ℕ) → Good w (leaderDoes x (marker p (length words) k0 (o .pid) (o .epoch) (o .verdict) (o .coordinator) .action) (markerWritten o) (onceDone (reply (marker p (length words) k0 (o .pid) (o .epoch) (o .verdict) (o .coordinator) .answer)) n o) w)
   delivers-own n =
       either (eqb (producerAt p k0 .pid) (toNat (o .pid)))
       (λ a. let e = eqb-true (producerAt p k0 .pid) (toNat (o .pid)) a in

@@ -20,10 +20,11 @@ use Rattle.search.specs.Search.{Each, found}
 use Rattle.table.specs.Table.{rowAt, placeOf}
 use Rattle.runs.specs.History.{History, Logged, recordsOf, latestOf, nextOf, flushedOf, isFlushed, isFlushedPrepare, flushedPrepares, listed, isCompleted, carriedFor}
 use Rattle.runs.specs.World.{Phase, up, down, World, catalogueOf, start, Item, cut, reopen, step, run}
-use Rattle.runs.specs.Demand3.{Kept, Undisturbed, CompletesInTime, Promised, Demand3}
+use Rattle.runs.specs.Demand3.{Keeps, Kept, Undisturbed, CompletesInTime, Promised, Demand3}
 use Rattle.runs.proofs.Admitted.{step-own}
+use Rattle.runs.proofs.Epochs.{Epochs, start-epochs, run-epochs}
 use Rattle.restart.specs.Told.{Told}
-use Rattle.restart.proofs.Lists.{In, in-each, each-filter, either}
+use Rattle.restart.proofs.Lists.{In, found-is, in-each, each-filter, either}
 use Rattle.restart.proofs.Records.{come-record, latest-last}
 use Rattle.restart.proofs.Telling.{prepare-idle}
 use Rattle.restart.proofs.Grown.{Firm, firm-grown, flushed-firm, kept-stands, kept-next, told-grown}
@@ -45,7 +46,7 @@ kept w i items =
     flushed-firm (w .history) (Kept (run items w))
     (λ p f prepares.
     let g = firm-grown c (w .history) (i .told) p f (r .grown) in
-    record { stands = kept-stands c (run items w .history) t p (g .stands); next = kept-next c (run items w .history) t p (g .stands) prepares })
+    record { stands = found-is (Keeps p) (kept-stands c (run items w .history) t p (g .stands)) (record { verdict = refl; pid = refl; epoch = refl; partitions = refl; unchanged = refl }); next = kept-next c (run items w .history) t p (g .stands) prepares })
 
 -- ---- the count of carried orders
 
@@ -147,11 +148,16 @@ completes-in-time w i items undisturbed =
 
 -- ---- the theorem
 
-promised : (w : World) → Invariant w → (items : List Item) → Promised w items
-promised w i items =
-    record { kept = kept w i items; holds = holds-at (run items w) (run-reached items w i .invariant); completes-in-time = completes-in-time w i items }
+promised : (w : World) → Invariant w → Epochs w → (items : List Item) → Promised w items
+promised w i epochs items =
+    record {
+      kept = kept w i items;
+      holds = holds-at (run items w) (run-reached items w i .invariant) (run-epochs items w epochs .orders);
+      completes-in-time = completes-in-time w i items;
+    }
 
 pub demand-3 : Demand3
 demand-3 o accepted shared straight left epoch first last afterwards =
     let i = always o accepted shared in
-    (promised (run shared (start o)) i straight, promised (run shared (start o)) i (cut left ∷ reopen epoch first last ∷ afterwards))
+    let epochs = run-epochs shared (start o) (start-epochs o accepted) in
+    (promised (run shared (start o)) i epochs straight, promised (run shared (start o)) i epochs (cut left ∷ reopen epoch first last ∷ afterwards))

@@ -1,7 +1,7 @@
 -- A step is good if its history grows lawfully and the invariant holds after it. The coordinator's actions are.
 use Prim.Native.Nat.{ℕ, _+_, _≤_, _<_}
 use mathlib.Core.Path.{_≡_, refl, sym, ap, subst, _∙_}
-use mathlib.Core.Bool.{true}
+use mathlib.Core.Bool.{true, false}
 use mathlib.Core.List.{List, [], _∷_}
 use native.Mathlib.Omega.{arith}
 use lib.ListN.{length}
@@ -9,20 +9,17 @@ use Rattle.numbers.proofs.Tests.{not-both}
 use Rattle.catalogue.specs.declared.Catalogue.{Catalogue}
 use Rattle.record.specs.Record.{wellFormed}
 use Rattle.row.specs.Row.{recordOf}
-use Rattle.answers.specs.Refusals.{firstRefusal}
-use Rattle.answers.specs.declared.Answer.the-variants.{Refused}
-use Rattle.answers.proofs.Laws.{unless-does}
 use Rattle.table.specs.Table.{placeFor}
 use Rattle.table.proofs.Records.{come-place}
 use Rattle.table.proofs.Unacknowledged.{unacknowledged, plain-place-for}
-use Rattle.coordinator.specs.Coordinator.{logEnd, rowFrame, Action, keep, advance, append, acknowledge as acknowledgeAt, flushTo, appended, acknowledged, after}
-use Rattle.coordinator.specs.Flush.{flushTests, flush}
+use Rattle.coordinator.specs.Coordinator.{logEnd, rowFrame, Action, keep, advance, append, acknowledge as acknowledgeAt, flushTo, acknowledged, after}
 use Rattle.coordinator.specs.declared.Coordinator.{Coordinator}
-use Rattle.writer.specs.LogCalls.{LogCall, callTyped, actionOf}
-use Rattle.writer.proofs.Decisions.{Decided, byCall, byFlush}
+use Rattle.coordinator.specs.Calls.{CoordinatorCall, callTyped, actionOf}
+use Rattle.writer.proofs.Decisions.{Decided, byCall}
 use Rattle.writer.proofs.Lawful.{Lawful, decided-lawful}
+use Rattle.runs.proofs.Epochs.{epoch-kept}
 use Rattle.runs.specs.History.{Event, recordAppended, logFlushed, History, producedIn, recordsOf, contents, flushedOf, wordsIn}
-use Rattle.runs.specs.World.{Leader, Phase, up, down, nothing, World, catalogueOf, leaderAt, withCarrying, historyAfter, coordinatorDoes}
+use Rattle.runs.specs.World.{Leader, Phase, up, down, nothing, World, catalogueOf, leaderAt, withCarrying, historyAfter, coordinatorDoes, isAck}
 use Rattle.runs.proofs.Admitted.{Own}
 use Rattle.restart.specs.Views.{entriesOf}
 use Rattle.restart.specs.Told.{Told}
@@ -76,14 +73,6 @@ entries-after (advance clock) s h = refl
 entries-after (append place row) s h = before-quiet producedIn (recordAppended (recordOf row) (logEnd s + length (rowFrame s row))) h refl
 entries-after (acknowledgeAt place position) s h = refl
 entries-after (flushTo n) s h = before-quiet producedIn (logFlushed n) h refl
-
-epoch-after : (a : Action) (s : Coordinator) → after a s .epoch ≡ s .epoch
-unfolding appended acknowledged
-epoch-after keep s = refl
-epoch-after (advance clock) s = refl
-epoch-after (append place row) s = refl
-epoch-after (acknowledgeAt place position) s = refl
-epoch-after (flushTo n) s = refl
 
 -- what is acknowledged is closed
 abbrev pub Noted : Catalogue → Coordinator → History → Action → Type 0
@@ -178,12 +167,12 @@ module _ (w : World) (i : Invariant w) where
             acks = acks-after a l k n;
             own = o;
             count = i .count;
-            leaders = λ x. rw (epoch-after a s) (leaders-after a l k x);
+            leaders = λ x. rw (epoch-kept a s) (leaders-after a l k x);
             carried = tt;
           };
         }
 
-    -- Init, Add, End, Tick
+    -- every call but Ack
     settled-well : (a : Action) → Settled s a → AppendsWell s h a
     settled-well keep k = tt
     settled-well (advance clock) k = tt
@@ -198,13 +187,7 @@ module _ (w : World) (i : Invariant w) where
     settled-noted (acknowledgeAt place position) k = absurd k
     settled-noted (flushTo n) k = tt
 
-    pub calls : (call : LogCall) → callTyped call ≡ true → Good w (coordinatorDoes (actionOf call s (length (w .log))) s w)
-    calls call t =
-        let k = call-settled s (live-ready c (w .log) s h log-of (i .told)) (length (w .log)) call in
+    pub calls : (call : CoordinatorCall) → callTyped call ≡ true → isAck call ≡ false → Good w (coordinatorDoes (actionOf call s (length (w .log))) s w)
+    calls call t b =
+        let k = call-settled s (live-ready c (w .log) s h log-of (i .told)) (length (w .log)) call b in
         did (actionOf call s (length (w .log))) (byCall call t refl) (settled-well (actionOf call s (length (w .log))) k) (settled-noted (actionOf call s (length (w .log))) k)
-
-    -- Flush
-    pub flushes : (n : ℕ) → Good w (coordinatorDoes (flush s n .action) s w)
-    unfolding flush
-    flushes n =
-        did (flush s n .action) (byFlush n refl) (unless-does (firstRefusal (flushTests s n)) Refused keep _ (AppendsWell s h) tt (λ e. tt)) (unless-does (firstRefusal (flushTests s n)) Refused keep _ (Noted c s h) tt (λ e. tt))

@@ -1,13 +1,13 @@
 -- What follows from the order side: a flushed prepare is kept, and every entry of a completed prepare's transaction stands under its verdict.
-use Prim.Native.Nat.{ℕ, suc, _+_, _-_, _≤_, _<_}
+use Prim.Native.Nat.{ℕ, _+_, _-_, _≤_}
 use mathlib.Core.Path.{_≡_, sym, ap, subst, _∙_}
-use mathlib.Core.Bool.{true, true≢false}
-use mathlib.Core.List.{List, [], _∷_, _++_, map}
+use mathlib.Core.Bool.{true, true≢false, _&&_}
+use mathlib.Core.List.{List, [], _∷_}
 use mathlib.Core.Option.{none, some}
 use native.Mathlib.Omega.{arith}
-use lib.Dec.{eqb, leb}
+use lib.Dec.{eqb, leb, ltb}
 use lib.ListN.{length}
-use borrow.Author.Tests.{leb-true, leb-false}
+use borrow.Author.Tests.{leb-true, leb-false, ltb-true}
 use Rattle.numbers.specs.Bytes.{same}
 use Rattle.numbers.proofs.Tests.{by-cases, and-left, and-right}
 use Rattle.numbers.proofs.Bytes.{same-true}
@@ -15,15 +15,15 @@ use Rattle.catalogue.specs.declared.Catalogue.{Catalogue}
 use Rattle.record.specs.Record.{statusCode}
 use Rattle.row.specs.Row.{isPrepare}
 use Rattle.search.specs.Search.{found, Each, IfFound}
-use Rattle.search.proofs.Each.{each-then}
-use Rattle.runs.specs.History.{Produced, Event, recordAppended, logFlushed, logCut, logOpened, orderGiven, markerWritten, orderCarried, entryWritten, History, eventsBefore, eventsFrom, preparedBefore, numberAfter, producedIn, collect, collectWithBefore, Logged, endingBy, recordsOf, flushedOf, isFlushed, isFlushedPrepare, recordNumbered, nextOf, flushedPrepares, isCompleted, completedPrepares, transaction}
-use Rattle.runs.specs.Demand3.{Completes}
+use Rattle.runs.specs.History.{Event, recordAppended, logFlushed, logCut, logOpened, orderGiven, markerWritten, orderCarried, entryWritten, History, eventsBefore, preparedBefore, numberAfter, Logged, endingBy, recordsOf, flushedOf, isFlushed, isFlushedPrepare, recordNumbered, nextOf, flushedPrepares, isCompleted, completedPrepares, transaction, markerOver}
+use Rattle.runs.specs.Demand3.{Completes, StandsUnder}
 use Rattle.restart.specs.Views.{latestIn, nthPrepare, Entry, entriesOf, ordinalOf, underOf}
 use Rattle.restart.specs.Told.{Stage, begun, prepared, Busy, Closes, Standing, stillOpen, closed, Within, Told, MayBeNext}
-use Rattle.restart.proofs.Lists.{some-same, is-found, found-with, In, there, in-cons, each-in, in-each, each-filter, either}
+use Rattle.restart.proofs.Lists.{some-same, is-found, found-with, In, there, in-cons, each-in, in-each, each-filter}
 use Rattle.restart.proofs.Records.{numbered-found, After, latest, completed, after-prepare, latest-last}
-use Rattle.restart.proofs.Entries.{nth-below, nth-latest, ends-most, entry-before}
-use Rattle.restart.proofs.Telling.{told-next, standing-at}
+use Rattle.restart.proofs.Entries.{nth-below, nth-latest, ends-most}
+use Rattle.restart.proofs.Telling.{told-next, standing-at, prepare-code}
+use Rattle.restart.proofs.Over.{under-over, over-verdict}
 
 -- ---- histories that grow event by event
 
@@ -57,7 +57,7 @@ unfolding recordsOf flushedOf
 firm-next c h t r f (recordAppended x end) a = record { stands = there (f .stands); flushed = f .flushed }
 firm-next c h t r f (logFlushed n) a = record { stands = f .stands; flushed = omega (arith, f .flushed) }
 firm-next c h t r f (logCut n) a = record { stands = ending-keeps n (recordsOf h) r (f .stands) (omega (arith, f .flushed)); flushed = omega (arith, f .flushed) }
-firm-next c h t r f logOpened a = record { stands = f .stands; flushed = ends-most c (recordsOf h) (t .ends) r (f .stands) }
+firm-next c h t r f (logOpened epoch) a = record { stands = f .stands; flushed = ends-most c (recordsOf h) (t .ends) r (f .stands) }
 firm-next c h t r f (orderGiven o) a = record { stands = f .stands; flushed = f .flushed }
 firm-next c h t r f (markerWritten o) a = record { stands = f .stands; flushed = f .flushed }
 firm-next c h t r f (orderCarried o) a = record { stands = f .stands; flushed = f .flushed }
@@ -117,52 +117,17 @@ under-completed c h t q i e p j w = go (standing-at c h t p j)
     go (stillOpen z f) = found-with (Busy p (recordsOf h)) (latestIn (p .what .name) (recordsOf h)) f (λ l g b. absurd (open-case l g (b .stage)))
     go (closed f) = is-found (Closes (underOf h p) p) is f .verdict
 
--- ---- the transaction as a list of entries
-
-each-join : {A : Type 0} (P : A → Type 0) (l m : List A) → Each P l → Each P m → Each P (l ++ m)
-each-join P [] m h k = k
-each-join P (x ∷ l) m (h, hs) k = (h, each-join P l m hs k)
-
--- what the newest event wrote, and what the others did
-each-split : (P : Entry → Type 0) (h : History) (l : List Produced) (m : List Entry) → Each P (map (λ (a : Produced). record { what = a; before = h }) l ++ m)
-    → Each (λ (a : Produced). P (record { what = a; before = h })) l × Each P m
-each-split P h [] m i = (tt, i)
-each-split P h (x ∷ l) m (i, is) = let (a, b) = each-split P h l m is in ((i, a), b)
-
--- the entries of the events from a number on
-from-entries : (P : Produced → Type 0) (n : ℕ) (h : History) → Each (λ (p : Entry). n ≤ length (p .before) → P (p .what)) (entriesOf h) → Each P (collect producedIn (eventsFrom n h))
-unfolding collect collectWithBefore
-from-entries P n [] i = let z : 0 - n ≡ 0 = omega arith in rw z tt
-from-entries P n (e ∷ h) i =
-    let (a, b) = each-split (λ (p : Entry). n ≤ length (p .before) → P (p .what)) h (producedIn e) (entriesOf h) i in
-    either (leb n (length h))
-    (λ q.
-    let low = leb-true n (length h) q in
-    let z : suc (length h) - n ≡ suc (length h - n) = omega arith in
-    rw z (each-join P (producedIn e) (collect producedIn (eventsFrom n h)) (each-then (λ (x : Produced). n ≤ length h → P x) P (λ x f. f low) (producedIn e) a) (from-entries P n h b)))
-    (λ q. let high = leb-false n (length h) q in let z : suc (length h) - n ≡ 0 = omega arith in rw z tt)
-
--- the entries of the events before a number
-before-entries : (P : Entry → Type 0) (n : ℕ) (h : History) → Each (λ (p : Entry). length (p .before) < n → P p) (entriesOf h) → Each P (entriesOf (eventsBefore n h))
-before-entries P n [] i = let z : 0 - n ≡ 0 = omega arith in rw z (unfold collectWithBefore in tt)
-before-entries P n (e ∷ h) i =
-    either (leb n (length h))
-    (λ q.
-    let low = leb-true n (length h) q in
-    let z : suc (length h) - n ≡ suc (length h - n) = omega arith in
-    rw z (before-entries P n h (each-split (λ (p : Entry). length (p .before) < n → P p) h (producedIn e) (entriesOf h) (unfold collectWithBefore in i) .1)))
-    (λ q.
-    let high = leb-false n (length h) q in
-    let z : suc (length h) - n ≡ 0 = omega arith in
-    rw z (in-each P (entriesOf (e ∷ h)) (λ p j. each-in (λ (p : Entry). length (p .before) < n → P p) (entriesOf (e ∷ h)) p i j (let b = entry-before (e ∷ h) p j in omega arith))))
-
-pub under-verdict : (c : Catalogue) (h : History) → Told c h → (P : Logged → Produced → Type 0)
-    → ((q : Logged) (p : Entry) → In p (entriesOf h) → statusCode (q .content .status) ≡ underOf h p + 1 → P q (p .what))
-    → Each (λ (q : Logged). Each (P q) (transaction q h)) (completedPrepares h)
-under-verdict c h t P f =
+pub under-verdict : (c : Catalogue) (h : History) → Told c h → Each (λ (q : Logged). Each (StandsUnder h (q .content .status)) (transaction q h)) (completedPrepares h)
+under-verdict c h t =
     each-filter _ (isCompleted h) (recordsOf h)
     (in-each _ (recordsOf h) (λ q i e.
-    each-filter (P q) (λ (x : Produced). same (x .name) (q .content .name)) _
-    (from-entries (λ (x : Produced). same (x .name) (q .content .name) ≡ true → P q x) (numberAfter (preparedBefore (q .content .name) (eventsBefore (q .number) h))) (eventsBefore (q .number) h)
-    (before-entries (λ (p : Entry). numberAfter (preparedBefore (q .content .name) (eventsBefore (q .number) h)) ≤ length (p .before) → same (p .what .name) (q .content .name) ≡ true → P q (p .what)) (q .number) h
-    (in-each _ (entriesOf h) (λ p j b s n. f q p j (under-completed c h t q i e p j (record { name = same-true (p .what .name) (q .content .name) n; since = s; before = b }))))))))
+    let since = numberAfter (preparedBefore (q .content .name) (eventsBefore (q .number) h)) in
+    each-filter (StandsUnder h (q .content .status)) (λ (p : Entry). same (p .what .name) (q .content .name) && leb since (length (p .before)) && ltb (length (p .before)) (q .number)) (entriesOf h)
+    (in-each _ (entriesOf h) (λ p j s.
+    let within : Within h q p = record {
+      name = same-true (p .what .name) (q .content .name) (search (and-left, and-right));
+      since = leb-true since (length (p .before)) (search (and-left, and-right));
+      before = ltb-true (length (p .before)) (q .number) (search (and-left, and-right));
+    } in
+    let code = prepare-code (q .content .status) (and-left (isPrepare (q .content .status)) _ e) in
+    over-verdict (statusCode (q .content .status)) (markerOver h p) (omega arith) (under-completed c h t q i e p j within ∙ ap (λ (n : ℕ). n + 1) (under-over h p))))))

@@ -6,7 +6,7 @@ use mathlib.Core.List.{List, [], _∷_}
 use mathlib.Core.Option.{some}
 use native.Mathlib.Omega.{arith}
 use lib.ListN.{length, take, getD}
-use borrow.Author.Tests.{ltb-true, le-ltb, leb-true, eq-eqb, not-true}
+use borrow.Author.Tests.{le-leb, ltb-true, le-ltb, leb-true, eq-eqb, not-true}
 use Rattle.numbers.proofs.Tests.{not-both, and-left, and-right, and-both}
 use Rattle.bits.specs.Bits.{member, subset}
 use Rattle.bits.proofs.Laws.{subset-same, subset-trans, subset-is, subset-from, member-is, member-true, left-parts}
@@ -17,9 +17,10 @@ use Rattle.row.specs.Row.{isPrepare, outstanding}
 use Rattle.row.specs.declared.Row.{Row}
 use Rattle.search.specs.Search.{Each, EachAt, Found}
 use Rattle.answers.specs.Limits.{places}
+use Rattle.answers.specs.Answers.{reply, orderReply}
 use Rattle.answers.specs.Refusals.{firstRefusal, Decision}
 use Rattle.answers.specs.declared.Answer.{Answer}
-use Rattle.answers.specs.declared.Answer.the-variants.{Done, Refused}
+use Rattle.answers.specs.declared.Answer.the-variants.{Refused}
 use Rattle.answers.proofs.Laws.{unless-accepted}
 use Rattle.table.specs.Table.{rowAt, placeOf}
 use Rattle.log_reader.specs.Records.{framesOf}
@@ -30,15 +31,18 @@ use Rattle.coordinator.specs.declared.Coordinator.{Coordinator}
 use Rattle.coordinator.proofs.OrderCases.{ordered-is, order-given, order-lowest}
 use Rattle.partition.specs.Limits.{entryWords}
 use Rattle.partition.specs.Partition.{Action as PartitionAction}
+use Rattle.partition.specs.Read.{standsUnder}
 use Rattle.partition.proofs.MarkerCases.{marker-accepted}
-use Rattle.runs.specs.History.{Order, recordAppended, logFlushed, logCut, logOpened, orderGiven, markerWritten, orderCarried, entryWritten, History, ordersIn, collect, WithBefore, collectWithBefore, Logged, recordsOf, contents, endOf, flushedOf, isFlushed, isFlushedPrepare, latestOf, nextOf, recordNumbered, isCompleted, wordsOf}
+use Rattle.runs.specs.History.{Order, recordAppended, logFlushed, logCut, logOpened, orderGiven, markerWritten, orderCarried, entryWritten, History, ordersIn, collect, WithBefore, collectWithBefore, Logged, recordsOf, contents, endOf, flushedOf, isFlushed, isFlushedPrepare, latestOf, nextOf, recordNumbered, isCompleted, markerOver, wordsOf}
 use Rattle.runs.specs.World.{Leader, openLeader, Phase, up, down, Carrying, nothing, toDeliver, toAcknowledge, World, catalogueOf, leaderAt}
-use Rattle.runs.specs.Demand3.{Completes, LogAgrees, SameLengths, WordsAgree, IsFor, StandsUnder, UnderItsVerdict, GivenUpTo, OrdersGiven, AckDone, CarryingAccepted, Restarts, HoldsAt}
+use Rattle.runs.specs.InEveryRun.{kindOf}
+use Rattle.runs.specs.Demand3.{Completes, LogAgrees, SameLengths, WordsAgree, IsFor, OfLastOpening, UnderItsVerdict, GivenUpTo, OrdersGiven, AckDone, CarryingAccepted, Restarts, HoldsAt}
 use Rattle.restart.specs.Views.{Entry, entriesOf}
 use Rattle.restart.proofs.Lists.{In, found-with, each-in, in-each, each-filter}
 use Rattle.restart.proofs.Records.{After, latest, completed, after-prepare, come-record}
 use Rattle.restart.proofs.Telling.{prepare-code}
 use Rattle.restart.proofs.Words.{MarkersFit, under-words}
+use Rattle.restart.proofs.Over.{under-over}
 use Rattle.restart.proofs.Grown.{under-verdict}
 use Rattle.restart.proofs.Invariant.{LogSide, UnderWay, CarryingSide, Invariant}
 use Rattle.restart.proofs.Live.{live-latest, live-holds}
@@ -99,20 +103,23 @@ markers-fit [] i = tt
 markers-fit (recordAppended r end ∷ h) i = markers-fit h i
 markers-fit (logFlushed n ∷ h) i = markers-fit h i
 markers-fit (logCut n ∷ h) i = markers-fit h i
-markers-fit (logOpened ∷ h) i = markers-fit h i
+markers-fit (logOpened epoch ∷ h) i = markers-fit h i
 markers-fit (orderGiven o ∷ h) (i, is) = markers-fit h is
 markers-fit (markerWritten o ∷ h) (i, is) = (fit-one o h i, markers-fit h is)
 markers-fit (orderCarried o ∷ h) i = markers-fit h i
 markers-fit (entryWritten e ∷ h) i = markers-fit h i
 
 under-its-verdict : (w : World) → Invariant w → UnderItsVerdict w
-under-its-verdict w i =
-    under-verdict (catalogueOf w) (w .history) (i .told) (λ q e. StandsUnder w (q .content .status) e)
-    (λ q p j e.
+under-its-verdict w i = under-verdict (catalogueOf w) (w .history) (i .told)
+
+-- Read finds the same in the words
+pub stands-under : (w : World) → Invariant w → (p : Entry) → In p (entriesOf (w .history))
+    → let l = leaderAt w (p .what .position) in standsUnder (l .words) (l .partition .end) (p .what .offset) ≡ kindOf (markerOver (w .history) p)
+stands-under w i p j =
     let l = leaderAt w (p .what .position) in
-    let u = under-words (w .history) (markers-fit (w .history) (i .told .for-prepare)) p j (each-in (λ (p : Entry). entryWords * p .what .offset ≡ length (wordsOf (p .what .position) (p .before))) (entriesOf (w .history)) p (i .offsets) j)
-    (l .words) (l .partition .end) (i .leaders (p .what .position) .words) (words-length w i (p .what .position)) in
-    e ∙ ap (λ (n : ℕ). n + 1) (sym u))
+    under-words (w .history) (markers-fit (w .history) (i .told .for-prepare)) p j (each-in (λ (p : Entry). entryWords * p .what .offset ≡ length (wordsOf (p .what .position) (p .before))) (entriesOf (w .history)) p (i .offsets) j)
+    (l .words) (l .partition .end) (i .leaders (p .what .position) .words) (words-length w i (p .what .position))
+    ∙ under-over (w .history) p
 
 -- ---- orders
 
@@ -149,7 +156,7 @@ orders-given-up w i s u =
     h : History
     h = w .history
 
-    go : (p : Logged) → In p (recordsOf h) → (isFlushedPrepare h p && not (isCompleted h p)) ≡ true → (set : ℕ) → subset (c .all) set ≡ true → GivenUpTo (placeOf (s .table) (p .content .name)) (order s set)
+    go : (p : Logged) → In p (recordsOf h) → (isFlushedPrepare h p && not (isCompleted h p)) ≡ true → (set : ℕ) → subset (c .all) set ≡ true → GivenUpTo (placeOf (s .table) (p .content .name)) (orderReply (order s set) .results)
     go p j e set more =
         let is = pending-latest w i p j e in
         let k = placeOf (s .table) (p .content .name) in
@@ -169,7 +176,7 @@ orders-given-up w i s u =
         let test : ordered (s .flushed) set row ≡ true = ordered-is s set row (record { prepares = prepares; flushed = flushed; some = some }) in
         let low : k < orderPlace s set → ⊥ = λ b. not-both (order-lowest s set k b) test in
         let inside : k < places = ltb-true k places (live-holds c (w .log) s h l (i .told) (p .content .name) p is) in
-        rw (order-given s set (omega arith)) (omega arith)
+        rw (order-given s set (omega arith)) (le-leb (orderPlace s set) k (omega arith))
 
 orders-given : (w : World) → Invariant w → OrdersGiven (w .phase) w
 orders-given w i = go (w .phase) refl
@@ -180,11 +187,11 @@ orders-given w i = go (w .phase) refl
 
 -- ---- carrying
 
-ack-done : (w : World) (i : Invariant w) (s : Coordinator) (u : w .phase ≡ up s) (o : Order) → UnderWay (catalogueOf w) (w .history) s o → ack s (length (w .log)) (o .place) (o .pid) (o .epoch) (o .position) .answer ≡ Done
+ack-done : (w : World) (i : Invariant w) (s : Coordinator) (u : w .phase ≡ up s) (o : Order) → UnderWay (catalogueOf w) (w .history) s o → reply (ack s (length (w .log)) (o .place) (o .pid) (o .epoch) (o .position) .answer) .number ≡ 0
 unfolding ack
-ack-done w i s u o way = ap (λ (d : Decision Answer Action). d .answer) (unless-accepted (firstRefusal (ackTests s (length (w .log)) (o .place) (o .pid) (o .epoch) (o .position))) Refused keep _ (ack-passes w i s u o way))
+ack-done w i s u o way = ap (λ (d : Decision Answer Action). reply (d .answer) .number) (unless-accepted (firstRefusal (ackTests s (length (w .log)) (o .place) (o .pid) (o .epoch) (o .position))) Refused keep _ (ack-passes w i s u o way))
 
-carrying-accepted : (w : World) → Invariant w → CarryingAccepted (w .carrying) w
+pub carrying-accepted : (w : World) → Invariant w → CarryingAccepted (w .carrying) w
 carrying-accepted w i = go (w .carrying) (w .phase) refl (i .carried)
   where
     go : (k : Carrying) (p : Phase) → w .phase ≡ p → CarryingSide (catalogueOf w) (w .history) (w .phase) k → CarryingAccepted k w
@@ -192,7 +199,7 @@ carrying-accepted w i = go (w .carrying) (w .phase) refl (i .carried)
     go (toDeliver n o) (up s) u d =
         let way : UnderWay (catalogueOf w) (w .history) s o = subst (λ (y : Phase). CarryingSide (catalogueOf w) (w .history) y (toDeliver n o)) u d in
         let l = leaderAt w (o .position) in
-        ap (λ (x : Decision Answer PartitionAction). x .answer) (marker-accepted (l .partition) (length (l .words)) (o .place) (o .pid) (o .epoch) (o .verdict) (o .coordinator) (marker-passes w i s u o way))
+        ap (λ (x : Decision Answer PartitionAction). reply (x .answer) .number) (marker-accepted (l .partition) (length (l .words)) (o .place) (o .pid) (o .epoch) (o .verdict) (o .coordinator) (marker-passes w i s u o way))
     go (toDeliver n o) (down m before) u d = absurd (subst (λ (y : Phase). CarryingSide (catalogueOf w) (w .history) y (toDeliver n o)) u d)
     go (toAcknowledge n o) (up s) u d =
         let (way, _) = subst (λ (y : Phase). CarryingSide (catalogueOf w) (w .history) y (toAcknowledge n o)) u d in
@@ -201,12 +208,13 @@ carrying-accepted w i = go (w .carrying) (w .phase) refl (i .carried)
 
 -- ---- all of it
 
-pub holds-at : (w : World) → Invariant w → HoldsAt w
-holds-at w i =
+pub holds-at : (w : World) → Invariant w → OfLastOpening w → HoldsAt w
+holds-at w i epochs =
     record {
       log-agrees = log-agrees w i;
       words-agree = words-agree w i;
       for-flushed-prepare = i .told .for-prepare;
+      of-last-opening = epochs;
       one-marker = i .told .one;
       under-its-verdict = under-its-verdict w i;
       orders-given = orders-given w i;

@@ -6,6 +6,7 @@ pub mod Entries
 pub mod Telling
 pub mod Grown
 pub mod Words
+pub mod Over
 pub mod Settled
 pub mod Invariant
 pub mod Live
@@ -28,3 +29,4 @@ pub mod Tally
 pub mod Counted
 pub mod Demand3
 pub mod Committed
+pub mod Completing

@@ -21,7 +21,7 @@ use Rattle.coordinator.specs.declared.OpenedLog.{OpenedLog}
 use Rattle.coordinator.proofs.OpenCases.{open-number, opening-taken}
 use Rattle.answers.specs.declared.OpenAnswer.the-variants.{Opened}
 use Rattle.log_reader.specs.Read.{logRead}
-use Rattle.writer.specs.LogCalls.{openingTyped, outOfOrder}
+use Rattle.writer.specs.Writer.{openingTyped, outOfOrder}
 use Rattle.writer.proofs.Decisions.{Decided}
 use Rattle.writer.proofs.Lawful.{Lawful, decided-lawful}
 use Rattle.writer.proofs.Written.{Written, recordsAfter, written-acts, written-end}
@@ -111,27 +111,27 @@ module _ (text log : List ℕ) (p : parse text .refusal ≡ 0) (n : ℕ) (h : Hi
   abbrev c : Catalogue
   c = parse text .catalogue
 
-  pub opened-may : MayBeNext c h logOpened
-  opened-may = omega (arith, d .flushed, d .within)
+  pub opened-may : (epoch : ℤ) → MayBeNext c h (logOpened epoch)
+  opened-may epoch = omega (arith, d .flushed, d .within)
 
   pub opened-up : (epoch first last : ℤ) → openingTyped epoch first last ≡ true → openReply (opening text log n epoch first last .answer) .number ≡ 0
-      → UpLog c log (opening text log n epoch first last .state) (logOpened ∷ h)
+      → UpLog c log (opening text log n epoch first last .state) (logOpened epoch ∷ h)
   opened-up epoch first last typed accepted =
       record { written = rw (same-records, d .left) w; flushed = opened-flushed }
     where
       w : Written c log (opening text log n epoch first last .state) (wholeIn c n (d .records))
       w = written-restarts text log (d .state) (d .records) p (d .written) n epoch first last (d .low) (d .high) typed accepted
 
-      same-records : recordsOf (logOpened ∷ h) ≡ recordsOf h
+      same-records : recordsOf (logOpened epoch ∷ h) ≡ recordsOf h
       same-records = unfold recordsOf in refl
 
       taken : opening text log n epoch first last ≡ record { answer = Opened; state = takenOver c (logRead text log n .table) (length log) epoch first last }
       taken = opening-taken text log n epoch first last (sym (open-number text log n epoch first last) ∙ accepted)
 
-      new-flushed : flushedOf (logOpened ∷ h) ≡ endOf (recordsOf h)
+      new-flushed : flushedOf (logOpened epoch ∷ h) ≡ endOf (recordsOf h)
       new-flushed = unfold flushedOf in refl
 
-      opened-flushed : opening text log n epoch first last .state .flushed ≡ flushedOf (logOpened ∷ h)
+      opened-flushed : opening text log n epoch first last .state .flushed ≡ flushedOf (logOpened epoch ∷ h)
       opened-flushed =
           ap (λ (o : OpenedLog). o .state .flushed) taken ∙ sym (ap (λ (o : OpenedLog). logEnd (o .state)) taken)
           ∙ written-end c log (opening text log n epoch first last .state) (wholeIn c n (d .records)) w ∙ ap (λ (l : List Record). length (framesOf c l)) (sym (d .left)) ∙ sym (ends-length c (recordsOf h) (t .ends)) ∙ sym new-flushed

@@ -31,7 +31,7 @@ use Rattle.coordinator.specs.Order.{due, orderPlace, order}
 use Rattle.coordinator.specs.declared.Coordinator.{Coordinator}
 use Rattle.coordinator.proofs.OrderCases.{Ordered, order-given, order-none, order-found}
 use Rattle.runs.specs.History.{Order, Event, orderGiven, History, producedIn, Logged, recordsOf, flushedOf, latestOf, recordNumbered, wordsIn}
-use Rattle.runs.specs.World.{Phase, up, down, Carrying, toDeliver, World, catalogueOf, leaderAt, withCarrying, withEvent, orderedRecord, numberOf, orderAnswered}
+use Rattle.runs.specs.World.{Phase, up, down, Carrying, toDeliver, World, catalogueOf, leaderAt, withCarrying, withEvent, orderedRecord, numberOr, orderAnswered}
 use Rattle.runs.specs.Demand3.{IsFor}
 use Rattle.restart.specs.Told.{MayBeNext}
 use Rattle.restart.proofs.Lists.{found-is, found-with, In, find-in, either}
@@ -170,7 +170,7 @@ module _ (w : World) (i : Invariant w) (s : Coordinator) (u : w .phase ≡ up s)
       left-parts 64 (row .joined) (row .acknowledged) joined-small (acks-of w i s u .small place) (lowest (due row set)) (member-is (outstanding row) (lowest (due row set)) inside)
 
   number-is : given .for ≡ q .number
-  number-is = ap (λ (v : Option Logged). numberOf v (length h)) (st .is)
+  number-is = ap (λ (v : Option Logged). numberOr v (length h)) (st .is)
 
   is-for : IsFor given h q
   is-for =

@@ -1,7 +1,7 @@
 -- A cut, an opening of what it left, and calls that are lent another slice.
 use Prim.Native.Nat.{ℕ, _≤_}
 use mathlib.Core.Path.{_≡_, refl, sym, ap, subst, _∙_}
-use mathlib.Core.Bool.{true, false, _&&_}
+use mathlib.Core.Bool.{Bool, true, false, _&&_}
 use mathlib.Core.List.{List, _∷_}
 use native.Mathlib.Omega.{arith}
 use lib.Dec.{eqb, leb}
@@ -15,7 +15,7 @@ use Rattle.numbers.proofs.Tests.{not-both, and-left, and-right}
 use Rattle.catalogue.specs.Catalogue.{parse}
 use Rattle.catalogue.specs.declared.Catalogue.{Catalogue}
 use Rattle.record.specs.Record.{idle}
-use Rattle.answers.specs.Answers.{openReply}
+use Rattle.answers.specs.Answers.{reply, openReply}
 use Rattle.answers.specs.Refusals.{firstRefusal}
 use Rattle.answers.specs.declared.Answer.the-variants.{Refused}
 use Rattle.answers.specs.declared.InitAnswer.the-variants.{Refused as InitRefused}
@@ -28,7 +28,7 @@ use Rattle.table.proofs.Valid.{Valid}
 use Rattle.log_reader.specs.Records.{tableOf}
 use Rattle.log_reader.proofs.RecordsRead.{scan-records}
 use Rattle.log_reader.proofs.TableSays.{records-valid}
-use Rattle.coordinator.specs.Coordinator.{logEnd, admits, Action, keep, after}
+use Rattle.coordinator.specs.Coordinator.{logEnd, admits, Action, keep}
 use Rattle.coordinator.specs.Init.{initTests, initAccepted, init}
 use Rattle.coordinator.specs.Add.{addTests, add}
 use Rattle.coordinator.specs.End.{endTests, end}
@@ -43,16 +43,18 @@ use Rattle.coordinator.proofs.EndCases.{end-passed}
 use Rattle.coordinator.proofs.TickCases.{tick-passed}
 use Rattle.coordinator.proofs.AckCases.{ack-passed}
 use Rattle.coordinator.proofs.OpenCases.{open-number, opening-taken}
-use Rattle.partition.specs.Marker.{marker}
+use Rattle.partition.specs.Marker.{markerTests, marker}
 use Rattle.partition.specs.Partition.{admits as partitionAdmits, Action as PartitionAction, keep as keepPartition, after as partitionAfter}
 use Rattle.partition.proofs.MarkerCases.{marker-passed, marker-refused}
 use Rattle.partition.proofs.Reserve.{admits-length}
 use Rattle.server.specs.Produce.{produceTests, produce}
 use Rattle.server.proofs.ProduceCases.{produce-passed}
-use Rattle.writer.specs.LogCalls.{LogCall, callInit, callAdd, callEnd, callTick, actionOf, openingTyped}
+use Rattle.coordinator.specs.Calls.{CoordinatorCall, initCall, addCall, endCall, tickCall, flushCall, ackCall, actionOf}
+use Rattle.writer.specs.Writer.{openingTyped}
 use Rattle.writer.proofs.Written.{written-admits}
 use Rattle.runs.specs.History.{Order, logCut, logOpened, History, producedIn, recordsOf, contents}
-use Rattle.runs.specs.World.{Phase, up, down, nothing, World, catalogueOf, leaderAt, withState, withPhase, withPartition, onceDone}
+use Rattle.runs.specs.World.{Phase, up, down, nothing, World, catalogueOf, leaderAt, coordinatorElsewhere, withPhase, withPartition, onceDone}
+use Rattle.runs.proofs.Leaves.{flush-elsewhere}
 use Rattle.restart.proofs.Lists.{either}
 use Rattle.restart.proofs.Entries.{before-quiet}
 use Rattle.restart.proofs.Telling.{cut-quiet, opened-quiet, prepare-idle}
@@ -61,7 +63,7 @@ use Rattle.restart.proofs.Invariant.{DownLog, LogSide, LeaderAgrees, ep
 use Rattle.restart.proofs.LogSteps.{cut-may, cut-down, opened-may, opened-up}
 use Rattle.restart.proofs.Acks.{member-nothing, fresh-waits}
 use Rattle.restart.proofs.Produces.{own-at, keeps-leader}
-use Rattle.restart.proofs.Good.{Good, leader-quiet, log-of, leaders-of, idles}
+use Rattle.restart.proofs.Good.{Good, leader-quiet, log-of, leaders-of, idles, calls}
 
 -- ---- a cut
 
@@ -113,14 +115,14 @@ opening-valid text log n epoch first last a =
 
 pub reopens : (w : World) (i : Invariant w) (n before : ℕ) (u : w .phase ≡ down n before) (epoch first last : ℤ) → openingTyped epoch first last ≡ true
     → (eqb (openReply (opening (w .text) (w .log) n epoch first last .answer) .number) 0 && leZ (pos before) epoch) ≡ true
-    → Good w (withPhase w (up (opening (w .text) (w .log) n epoch first last .state)) logOpened)
+    → Good w (withPhase w (up (opening (w .text) (w .log) n epoch first last .state)) (logOpened epoch))
 reopens w i n before u epoch first last typed e =
     let c = catalogueOf w in
     let h = w .history in
     let accepted : openReply (opening (w .text) (w .log) n epoch first last .answer) .number ≡ 0 = eqb-true _ 0 (and-left (eqb (openReply (opening (w .text) (w .log) n epoch first last .answer) .number) 0) (leZ (pos before) epoch) e) in
     let (m, m-is, low) = at-least before epoch (and-right (eqb (openReply (opening (w .text) (w .log) n epoch first last .answer) .number) 0) (leZ (pos before) epoch) e) in
     let d : DownLog c (w .log) n h = subst (λ (p : Phase). LogSide c (w .log) p h) u (i .log-side) in
-    let may = opened-may (w .text) (w .log) (i .parsed) n h d (i .told) in
+    let may = opened-may (w .text) (w .log) (i .parsed) n h d (i .told) epoch in
     let (valid, epoch-is) = opening-valid (w .text) (w .log) n epoch first last accepted in
     let rises : before ≤ opening (w .text) (w .log) n epoch first last .state .epoch = omega (arith, epoch-is, ap toNat m-is) in
     record {
@@ -129,14 +131,14 @@ reopens w i n before u epoch first last typed e =
       holds = λ o. record {
         parsed = i .parsed;
         told = told-grown c h (i .told) (more still may);
-        offsets = rw (before-quiet producedIn logOpened h refl) (i .offsets);
+        offsets = rw (before-quiet producedIn (logOpened epoch) h refl) (i .offsets);
         log-side = opened-up (w .text) (w .log) (i .parsed) n h d (i .told) epoch first last typed accepted;
-        acks = fresh-acks c (logOpened ∷ h) (opening (w .text) (w .log) n epoch first last .state) valid;
+        acks = fresh-acks c (logOpened epoch ∷ h) (opening (w .text) (w .log) n epoch first last .state) valid;
         own = o;
         count = i .count;
         leaders = λ x.
             let a : LeaderAgrees c h before x (leaderAt w x) = subst (λ (p : Phase). LeaderAgrees c h (epochOf p) x (leaderAt w x)) u (i .leaders x) in
-            let b = leader-quiet c h (i .told) logOpened (opened-quiet h may) (λ y. refl) before x (leaderAt w x) a in
+            let b = leader-quiet c h (i .told) (logOpened epoch) (opened-quiet h epoch may) (λ y. refl) before x (leaderAt w x) a in
             record { words = b .words; rows = b .rows; coordinator = omega (arith, b .coordinator) };
         carried = tt;
       };
@@ -144,30 +146,42 @@ reopens w i n before u epoch first last typed e =
 
 -- ---- another slice
 
-module _ (s : Coordinator) (n : ℕ) (e : admits s n ≡ false) where
-  pub call-refused : (c : LogCall) → actionOf c s n ≡ keep
-  unfolding init add end tick
-  call-refused (callInit name timeout time) = unless-does (firstRefusal (initTests s n name timeout time)) InitRefused keep (initAccepted s name timeout time) (λ (a : Action). a ≡ keep) refl (λ z. not-both e (init-passed s n name timeout time z .admitted))
-  call-refused (callAdd name pid epoch set time) = unless-does (firstRefusal (addTests s n name pid epoch set time)) Refused keep _ (λ (a : Action). a ≡ keep) refl (λ z. not-both e (add-passed s n name pid epoch set time z .admitted))
-  call-refused (callEnd name pid epoch verdict time) = unless-does (firstRefusal (endTests s n name pid epoch verdict)) Refused keep _ (λ (a : Action). a ≡ keep) refl (λ z. not-both e (end-passed s n name pid epoch verdict time z .admitted))
-  call-refused (callTick time) = unless-does (firstRefusal (tickTests s n)) TickRefused keep (tickAccepted s time) (λ (a : Action). a ≡ keep) refl (λ z. not-both e (tick-passed s n time z .admitted))
+-- every call but Flush is lent the log buffer
+abbrev pub takesLog : CoordinatorCall → Bool
+takesLog (initCall name timeout time) = true
+takesLog (addCall name pid epoch set time) = true
+takesLog (endCall name pid epoch verdict time) = true
+takesLog (tickCall time) = true
+takesLog (flushCall n) = false
+takesLog (ackCall place pid epoch position) = true
 
-  ack-refused : (place : ℕ) (pid epoch : ℤ) (position : ℕ) → ack s n place pid epoch position .action ≡ keep
-  unfolding ack
-  ack-refused place pid epoch position = unless-does (firstRefusal (ackTests s n place pid epoch position)) Refused keep _ (λ (a : Action). a ≡ keep) refl (λ z. not-both e (ack-passed s n place pid epoch position z .admitted))
+module _ (s : Coordinator) (n : ℕ) (e : admits s n ≡ false) where
+  pub call-refused : (c : CoordinatorCall) → takesLog c ≡ true → actionOf c s n ≡ keep
+  unfolding init add end tick ack
+  call-refused (initCall name timeout time) b = unless-does (firstRefusal (initTests s n name timeout time)) InitRefused keep (initAccepted s name timeout time) (λ (a : Action). a ≡ keep) refl (λ z. not-both e (init-passed s n name timeout time z .admitted))
+  call-refused (addCall name pid epoch set time) b = unless-does (firstRefusal (addTests s n name pid epoch set time)) Refused keep _ (λ (a : Action). a ≡ keep) refl (λ z. not-both e (add-passed s n name pid epoch set time z .admitted))
+  call-refused (endCall name pid epoch verdict time) b = unless-does (firstRefusal (endTests s n name pid epoch verdict)) Refused keep _ (λ (a : Action). a ≡ keep) refl (λ z. not-both e (end-passed s n name pid epoch verdict time z .admitted))
+  call-refused (tickCall time) b = unless-does (firstRefusal (tickTests s n)) TickRefused keep (tickAccepted s time) (λ (a : Action). a ≡ keep) refl (λ z. not-both e (tick-passed s n time z .admitted))
+  call-refused (flushCall length) b = not-both refl b
+  call-refused (ackCall place pid epoch position) b = unless-does (firstRefusal (ackTests s n place pid epoch position)) Refused keep _ (λ (a : Action). a ≡ keep) refl (λ z. not-both e (ack-passed s n place pid epoch position z .admitted))
 
 module _ (w : World) (i : Invariant w) (s : Coordinator) (u : w .phase ≡ up s) (n : ℕ) (d : n ≡ length (w .log) → ⊥) where
   pub not-admitted : admits s n ≡ false
   not-admitted = written-admits (catalogueOf w) (w .log) s (contents (recordsOf (w .history))) (log-of w i s u .written) n ∙ ne-eqb n (length (w .log)) d
 
-  same-state : Good w (withState w s)
+  same-state : Good w (coordinatorElsewhere keep s w)
   same-state = subst (λ (p : Phase). Good w (record { text = w .text; log = w .log; phase = p; leaders = w .leaders; carrying = nothing; history = w .history })) u (idles w i)
 
-  pub calls-elsewhere : (c : LogCall) → Good w (withState w (after (actionOf c s n) s))
-  calls-elsewhere c = rw (call-refused s n not-admitted c) same-state
+  refused-elsewhere : (c : CoordinatorCall) → takesLog c ≡ true → Good w (coordinatorElsewhere (actionOf c s n) s w)
+  refused-elsewhere c b = rw (call-refused s n not-admitted c b) same-state
 
-  pub acks-elsewhere : (place : ℕ) (pid epoch : ℤ) (position : ℕ) → Good w (withState w (after (ack s n place pid epoch position .action) s))
-  acks-elsewhere place pid epoch position = rw (ack-refused s n not-admitted place pid epoch position) same-state
+  pub calls-elsewhere : (c : CoordinatorCall) → Good w (coordinatorElsewhere (actionOf c s n) s w)
+  calls-elsewhere (initCall name timeout time) = refused-elsewhere (initCall name timeout time) refl
+  calls-elsewhere (addCall name pid epoch set time) = refused-elsewhere (addCall name pid epoch set time) refl
+  calls-elsewhere (endCall name pid epoch verdict time) = refused-elsewhere (endCall name pid epoch verdict time) refl
+  calls-elsewhere (tickCall time) = refused-elsewhere (tickCall time) refl
+  calls-elsewhere (flushCall m) = subst (Good w) (sym (flush-elsewhere m s w)) (calls w i s u (flushCall m) refl refl)
+  calls-elsewhere (ackCall place pid epoch position) = refused-elsewhere (ackCall place pid epoch position) refl
 
 module _ (w : World) (i : Invariant w) (x n : ℕ) (d : n ≡ length (leaderAt w x .words) → ⊥) where
   words-not-admitted : partitionAdmits (leaderAt w x .partition) n ≡ false
@@ -187,6 +201,8 @@ module _ (w : World) (i : Invariant w) (x n : ℕ) (d : n ≡ length (leaderAt w
       (λ z. not-both words-not-admitted (produce-passed s (leaderAt w x .partition) n name pid epoch position sequence payload z .admitted))
 
   pub delivers-elsewhere : (place : ℕ) (pid epoch : ℤ) (verdict : ℕ) (coordinator : ℤ) (k : ℕ) (o : Order)
-      → Good w (withPartition w x (partitionAfter (marker (leaderAt w x .partition) n place pid epoch verdict coordinator .action) (leaderAt w x .partition)) (onceDone (marker (leaderAt w x .partition) n place pid epoch verdict coordinator .answer) k o))
+      → Good w (withPartition w x (partitionAfter (marker (leaderAt w x .partition) n place pid epoch verdict coordinator .action) (leaderAt w x .partition)) (onceDone (reply (marker (leaderAt w x .partition) n place pid epoch verdict coordinator .answer)) k o))
   delivers-elsewhere place pid epoch verdict coordinator k o =
-      rw (marker-refused (leaderAt w x .partition) n place pid epoch verdict coordinator (λ z. not-both words-not-admitted (marker-passed (leaderAt w x .partition) n place pid epoch verdict coordinator z .admitted))) same-partition
+      let refused : firstRefusal (markerTests (leaderAt w x .partition) n place pid epoch verdict coordinator) ≡ 0 → ⊥ =
+      λ z. not-both words-not-admitted (marker-passed (leaderAt w x .partition) n place pid epoch verdict coordinator z .admitted) in
+      rw (marker-refused (leaderAt w x .partition) n place pid epoch verdict coordinator refused, ne-eqb _ 0 refused) same-partition

@@ -1,4 +1,4 @@
--- Rule 12 for the calls by producers and the clock: what they append follows a record that is flushed and no prepare.
+-- Rule 12 for every call but Ack: what it appends follows a record that is flushed and no prepare.
 use Prim.Native.Nat.{ℕ}
 use mathlib.Core.Path.{_≡_, refl, sym, ap, _∙_}
 use mathlib.Core.Bool.{true, false}
@@ -7,7 +7,7 @@ use lib.Dec.{ltb}
 use lib.IntN.{ℤ}
 use lib.ListN.{getD}
 use borrow.Author.Tests.{eqb-false, ltb-true}
-use Rattle.numbers.proofs.Tests.{by-cases}
+use Rattle.numbers.proofs.Tests.{by-cases, not-both}
 use Rattle.record.specs.declared.Status.{Status}
 use Rattle.row.specs.Row.{free, isBegin, isPrepare}
 use Rattle.row.specs.declared.Row.{Row}
@@ -29,14 +29,16 @@ use Rattle.coordinator.specs.Init.{initRow, initTests, initAccepted, init, need
 use Rattle.coordinator.specs.Add.{allJoined, addRow, addTests, addAction, add}
 use Rattle.coordinator.specs.End.{endTests, endAction, end}
 use Rattle.coordinator.specs.Tick.{overduePlace, tickTests, tickAccepted, tick}
+use Rattle.coordinator.specs.Flush.{flushTests, flush}
 use Rattle.coordinator.specs.declared.Coordinator.{Coordinator}
 use Rattle.coordinator.proofs.Held.{held-row}
 use Rattle.coordinator.proofs.InitCases.{init-passed}
 use Rattle.coordinator.proofs.AddCases.{add-passed}
 use Rattle.coordinator.proofs.EndCases.{end-passed}
 use Rattle.coordinator.proofs.TickCases.{overdue-found}
-use Rattle.writer.specs.LogCalls.{LogCall, callInit, callAdd, callEnd, callTick, actionOf}
+use Rattle.coordinator.specs.Calls.{CoordinatorCall, initCall, addCall, endCall, tickCall, flushCall, ackCall, actionOf}
 use Rattle.writer.proofs.Lawful.{Ready}
+use Rattle.runs.specs.World.{isAck}
 
 -- what a name's row must be for a record of it to be appended
 pub record Follows (s : Coordinator) (name : List ℕ) : Type 0 where
@@ -110,8 +112,14 @@ module _ (s : Coordinator) (r : Ready s) where
       place : ℕ
       place = overduePlace s (clockAt s time)
 
-  pub call-settled : (n : ℕ) (c : LogCall) → Settled s (actionOf c s n)
-  call-settled n (callInit name timeout time) = init-settled n name timeout time
-  call-settled n (callAdd name pid epoch set time) = add-settled n name pid epoch set time
-  call-settled n (callEnd name pid epoch verdict time) = end-settled n name pid epoch verdict time
-  call-settled n (callTick time) = tick-settled n time
+  flush-settled : (n : ℕ) → Settled s (flush s n .action)
+  unfolding flush
+  flush-settled n = unless-does (firstRefusal (flushTests s n)) Refused keep _ (Settled s) tt (λ e. tt)
+
+  pub call-settled : (n : ℕ) (c : CoordinatorCall) → isAck c ≡ false → Settled s (actionOf c s n)
+  call-settled n (initCall name timeout time) b = init-settled n name timeout time
+  call-settled n (addCall name pid epoch set time) b = add-settled n name pid epoch set time
+  call-settled n (endCall name pid epoch verdict time) b = end-settled n name pid epoch verdict time
+  call-settled n (tickCall time) b = tick-settled n time
+  call-settled n (flushCall length) b = flush-settled length
+  call-settled n (ackCall place pid epoch position) b = not-both b refl

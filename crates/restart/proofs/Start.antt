@@ -160,19 +160,19 @@ module _ (o : FirstOpening) (a : Accepted o) where
       ∙ torn-end c _ _ (says .rest) (eventsFor c (says .records)) (says-torn c (take (o .length) (o .log)) emptyTable says good)
 
   abbrev h : History
-  h = logOpened ∷ eventsFor c (says .records)
+  h = logOpened (o .epoch) ∷ eventsFor c (says .records)
 
   records : recordsOf h ≡ recordsOf (eventsFor c (says .records))
   records = unfold recordsOf in refl
 
   no-entries : entriesOf h ≡ []
-  no-entries = before-quiet producedIn logOpened (eventsFor c (says .records)) refl ∙ for-no-entry c (says .records)
+  no-entries = before-quiet producedIn (logOpened (o .epoch)) (eventsFor c (says .records)) refl ∙ for-no-entry c (says .records)
 
   no-orders : collectWithBefore ordersIn h ≡ []
-  no-orders = before-quiet ordersIn logOpened (eventsFor c (says .records)) refl ∙ for-no-order c (says .records)
+  no-orders = before-quiet ordersIn (logOpened (o .epoch)) (eventsFor c (says .records)) refl ∙ for-no-order c (says .records)
 
   no-markers : collect markersIn h ≡ []
-  no-markers = collect-quiet markersIn logOpened (eventsFor c (says .records)) refl ∙ for-no-marker c (says .records)
+  no-markers = collect-quiet markersIn (logOpened (o .epoch)) (eventsFor c (says .records)) refl ∙ for-no-marker c (says .records)
 
   told : Told c h
   told =
@@ -210,7 +210,7 @@ module _ (o : FirstOpening) (a : Accepted o) where
   unfolding openPartition
   fresh-leader epoch x l =
       record {
-        words = sym (words-quiet x logOpened (eventsFor c (says .records)) refl ∙ for-no-words c x (says .records));
+        words = sym (words-quiet x (logOpened (o .epoch)) (eventsFor c (says .records)) refl ∙ for-no-words c x (says .records));
         rows =
             record {
               entry-row = λ k b. rw no-entries tt;
@@ -265,4 +265,4 @@ module _ (o : FirstOpening) (a : Accepted o) where
       })
 
   pub start-invariant : Invariant (start o)
-  start-invariant = starts-so (logOpened ∷ recordsRead c (o .length) 0 (take (o .length) (o .log)) []) (ap (λ (y : History). logOpened ∷ y) first-events)
+  start-invariant = starts-so (logOpened (o .epoch) ∷ recordsRead c (o .length) 0 (take (o .length) (o .log)) []) (ap (λ (y : History). logOpened (o .epoch) ∷ y) first-events)

@@ -1,37 +1,37 @@
 -- Every item is good: the invariant holds at every moment of every run.
 use Prim.Native.Nat.{ℕ}
 use mathlib.Core.Path.{_≡_, refl, subst, _∙_}
-use mathlib.Core.Bool.{Bool, true, false, cond}
+use mathlib.Core.Bool.{Bool, true, false, cond, not}
 use mathlib.Core.List.{List, [], _∷_}
 use native.Mathlib.Omega.{arith}
 use lib.IntN.{ℤ}
 use lib.ListN.{length}
 use Rattle.numbers.specs.Padded.{padded}
-use Rattle.numbers.proofs.Tests.{not-both}
+use borrow.Author.Tests.{not-true}
+use Rattle.numbers.proofs.Tests.{not-both, and-left, and-right}
 use Rattle.bits.specs.Bits.{member}
 use Rattle.catalogue.specs.Catalogue.{parse}
 use Rattle.record.specs.Limits.{nameMax}
 use Rattle.answers.specs.Refusals.{firstRefusal}
 use Rattle.answers.specs.declared.ProduceAnswer.the-variants.{Refused}
 use Rattle.answers.proofs.Laws.{unless-does}
-use Rattle.coordinator.specs.Ack.{ack}
 use Rattle.coordinator.specs.declared.Coordinator.{Coordinator}
 use Rattle.partition.specs.Partition.{Action as PartitionAction, keep as keepPartition}
 use Rattle.server.specs.Produce.{produceTests, produce}
 use Rattle.server.proofs.ProduceCases.{produce-passed}
-use Rattle.writer.specs.LogCalls.{actionOf}
+use Rattle.coordinator.specs.Calls.{ackCall, callTyped, actionOf}
 use Rattle.runs.specs.History.{entryWritten}
-use Rattle.runs.specs.World.{Phase, up, Carrying, nothing, toDeliver, toAcknowledge, World, catalogueOf, leaderAt, FirstOpening, Accepted, start, own, another, Item, call, callFlush, callOrder, callProduce, callRead, deliver, acknowledge, cut, reopen, typed, leaderDoes, next, step, run}
+use Rattle.runs.specs.World.{Phase, up, Carrying, nothing, toDeliver, toAcknowledge, World, catalogueOf, leaderAt, FirstOpening, Accepted, start, own, another, Item, call, callOrder, callProduce, callRead, deliver, acknowledge, cut, reopen, isAck, inLists, leaderDoes, next, step, run}
 use Rattle.runs.proofs.Admitted.{step-own}
 use Rattle.runs.proofs.Cases.{step-cases, while-up-cases, lent-cases, leader-cases, deliverable-cases, acknowledgeable-cases, read-cases, cut-cases, reopened-cases}
 use Rattle.restart.proofs.Grown.{Grown, still, grown-then}
 use Rattle.restart.proofs.Invariant.{CarryingSide, Invariant}
-use Rattle.restart.proofs.Good.{Good, same, idles, calls, flushes}
+use Rattle.restart.proofs.Good.{Good, same, idles, calls}
 use Rattle.restart.proofs.Orders.{orders}
 use Rattle.restart.proofs.Produces.{keeps-leader, produces-own}
 use Rattle.restart.proofs.Delivers.{delivers-own}
 use Rattle.restart.proofs.Acknowledges.{acknowledges-own}
-use Rattle.restart.proofs.Restarts.{cuts, reopens, calls-elsewhere, acks-elsewhere, produces-elsewhere, delivers-elsewhere}
+use Rattle.restart.proofs.Restarts.{cuts, reopens, calls-elsewhere, produces-elsewhere, delivers-elsewhere}
 use Rattle.restart.proofs.Start.{start-invariant}
 
 module _ (w : World) (i : Invariant w) where
@@ -54,10 +54,9 @@ module _ (w : World) (i : Invariant w) where
   carrying-of : (s : Coordinator) → w .phase ≡ up s → (k : Carrying) → w .carrying ≡ k → CarryingSide (catalogueOf w) (w .history) (up s) k
   carrying-of s u k e = subst (λ (p : Phase). CarryingSide (catalogueOf w) (w .history) p k) u (subst (CarryingSide (catalogueOf w) (w .history) (w .phase)) e (i .carried))
 
-  next-good : (x : Item) → typed x ≡ true → Good w (next x w)
+  next-good : (x : Item) → inLists x ≡ true → Good w (next x w)
   next-good (call lent c) t =
-      while-up-cases (Good w) w (same w i) _ (λ s u. lent-cases (Good w) w (same w i) lent (actionOf c s) s (λ o. calls w i s u c t) (λ n d. calls-elsewhere w i s u n d c))
-  next-good (callFlush n) t = while-up-cases (Good w) w (same w i) _ (λ s u. flushes w i s u n)
+      while-up-cases (Good w) w (same w i) _ (λ s u. lent-cases (Good w) w (same w i) lent (actionOf c s) s (λ o. calls w i s u c (and-left (callTyped c) (not (isAck c)) t) (not-true (isAck c) (and-right (callTyped c) (not (isAck c)) t))) (λ n d. calls-elsewhere w i s u n d c))
   next-good (callOrder set) t = while-up-cases (Good w) w (same w i) _ (λ s u. orders w i s u set)
   next-good (callProduce lent other name pid epoch position sequence payload) t =
       while-up-cases (Good w) w (same w i) _
@@ -75,8 +74,8 @@ module _ (w : World) (i : Invariant w) where
   next-good (acknowledge (another slice) n) t =
       while-up-cases (Good w) w (same w i) _
       (λ s u. acknowledgeable-cases (Good w) w (same w i) n _
-      (λ o e. lent-cases (Good w) w (same w i) (another slice) (λ m. ack s m (o .place) (o .pid) (o .epoch) (o .position) .action) s (λ z. absurd (not-own slice z))
-      (λ m d. acks-elsewhere w i s u m d (o .place) (o .pid) (o .epoch) (o .position))))
+      (λ o e. lent-cases (Good w) w (same w i) (another slice) (actionOf (ackCall (o .place) (o .pid) (o .epoch) (o .position)) s) s (λ z. absurd (not-own slice z))
+      (λ m d. calls-elsewhere w i s u m d (ackCall (o .place) (o .pid) (o .epoch) (o .position)))))
     where
       not-own : (slice : List ℕ) → another slice ≡ own → ⊥
       not-own slice z = let y : _≡_ {A = ℕ} 0 1 = cc in omega arith

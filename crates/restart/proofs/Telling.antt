@@ -107,9 +107,9 @@ module _ (h : History) where
         views = λ k f. (n, b, ending-again n k (recordsOf h) f);
       }
 
-  pub opened-quiet : endOf (recordsOf h) ≤ flushedOf h → Quiet h logOpened
+  pub opened-quiet : (epoch : ℤ) → endOf (recordsOf h) ≤ flushedOf h → Quiet h (logOpened epoch)
   unfolding recordsOf flushedOf
-  opened-quiet b =
+  opened-quiet epoch b =
       record {
         no-entry = refl;
         no-marker = refl;
@@ -199,8 +199,8 @@ module _ (c : Catalogue) (h : History) (t : Told c h) where
   cut-told : (n : ℕ) → flushedOf h ≤ n → Told c (logCut n ∷ h)
   cut-told n b = quiet-told (logCut n) (cut-quiet h n b) (rw (before-quiet ordersIn (logCut n) h refl) (t .for-prepare))
 
-  opened-told : endOf (recordsOf h) ≤ flushedOf h → Told c (logOpened ∷ h)
-  opened-told b = quiet-told logOpened (opened-quiet h b) (rw (before-quiet ordersIn logOpened h refl) (t .for-prepare))
+  opened-told : (epoch : ℤ) → endOf (recordsOf h) ≤ flushedOf h → Told c (logOpened epoch ∷ h)
+  opened-told epoch b = quiet-told (logOpened epoch) (opened-quiet h epoch b) (rw (before-quiet ordersIn (logOpened epoch) h refl) (t .for-prepare))
 
   given-told : (o : Order) → Found (IsFor o h) (recordNumbered (o .for) h) → Told c (orderGiven o ∷ h)
   unfolding collectWithBefore
@@ -617,7 +617,7 @@ module _ (c : Catalogue) (h : History) (t : Told c h) where
   told-next (recordAppended r end) a = appended-told r end a
   told-next (logFlushed n) a = flushed-told n a
   told-next (logCut n) a = cut-told n a
-  told-next logOpened a = opened-told a
+  told-next (logOpened epoch) a = opened-told epoch a
   told-next (orderGiven o) a = given-told o a
   told-next (markerWritten o) a = marked-told o a
   told-next (orderCarried o) a = carried-told o

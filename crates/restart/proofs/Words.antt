@@ -90,7 +90,7 @@ adds : (x : ℕ) (e : Event) → Each (λ (o : Order). o .verdict ≤ 1) (marker
 adds x (recordAppended r end) i = nothing refl (λ pid. refl)
 adds x (logFlushed n) i = nothing refl (λ pid. refl)
 adds x (logCut n) i = nothing refl (λ pid. refl)
-adds x logOpened i = nothing refl (λ pid. refl)
+adds x (logOpened epoch) i = nothing refl (λ pid. refl)
 adds x (orderGiven o) i = nothing refl (λ pid. refl)
 adds x (markerWritten o) (i, is) =
     either (eqb (o .position) x)
@@ -107,7 +107,7 @@ unfolding collect
 fit-split (recordAppended r end) h i = (tt, i)
 fit-split (logFlushed n) h i = (tt, i)
 fit-split (logCut n) h i = (tt, i)
-fit-split logOpened h i = (tt, i)
+fit-split (logOpened epoch) h i = (tt, i)
 fit-split (orderGiven o) h i = (tt, i)
 fit-split (markerWritten o) h (i, is) = ((i, tt), is)
 fit-split (orderCarried o) h i = (tt, i)
@@ -170,7 +170,7 @@ entry-events [] p i = in-nil i
 entry-events (recordAppended r end ∷ h) p i = events-before (suc (length (p .before))) (recordAppended r end) h (entry-before h p i) ∙ entry-events h p i
 entry-events (logFlushed n ∷ h) p i = events-before (suc (length (p .before))) (logFlushed n) h (entry-before h p i) ∙ entry-events h p i
 entry-events (logCut n ∷ h) p i = events-before (suc (length (p .before))) (logCut n) h (entry-before h p i) ∙ entry-events h p i
-entry-events (logOpened ∷ h) p i = events-before (suc (length (p .before))) logOpened h (entry-before h p i) ∙ entry-events h p i
+entry-events (logOpened epoch ∷ h) p i = events-before (suc (length (p .before))) (logOpened epoch) h (entry-before h p i) ∙ entry-events h p i
 entry-events (orderGiven o ∷ h) p i = events-before (suc (length (p .before))) (orderGiven o) h (entry-before h p i) ∙ entry-events h p i
 entry-events (markerWritten o ∷ h) p i = events-before (suc (length (p .before))) (markerWritten o) h (entry-before h p i) ∙ entry-events h p i
 entry-events (orderCarried o ∷ h) p i = events-before (suc (length (p .before))) (orderCarried o) h (entry-before h p i) ∙ entry-events h p i

@@ -105,7 +105,7 @@ abbrev pub MayBeNext : Catalogue → History → Event → Type 0
 MayBeNext c h (recordAppended r end) = Appendable c h r end
 MayBeNext c h (logFlushed n) = flushedOf h ≤ n
 MayBeNext c h (logCut n) = flushedOf h ≤ n
-MayBeNext c h logOpened = endOf (recordsOf h) ≤ flushedOf h
+MayBeNext c h (logOpened epoch) = endOf (recordsOf h) ≤ flushedOf h
 MayBeNext c h (orderGiven o) = Found (IsFor o h) (recordNumbered (o .for) h)
 MayBeNext c h (markerWritten o) = Markable h o
 MayBeNext c h (orderCarried o) = Unit {0}

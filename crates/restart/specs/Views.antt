@@ -55,7 +55,7 @@ abbrev pub kindIn : ℕ → ℕ → Event → ℕ
 kindIn position pid (recordAppended r end) = 0
 kindIn position pid (logFlushed n) = 0
 kindIn position pid (logCut n) = 0
-kindIn position pid logOpened = 0
+kindIn position pid (logOpened epoch) = 0
 kindIn position pid (orderGiven o) = 0
 kindIn position pid (markerWritten o) = cond (eqb (o .position) position && eqb (toNat (o .pid)) pid) (o .verdict + 1) 0
 kindIn position pid (orderCarried o) = 0

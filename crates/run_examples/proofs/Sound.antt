@@ -1,13 +1,14 @@
 -- What the tests find is what the clauses of demand 3 say.
 use Prim.Native.Nat.{ℕ, _+_, _*_}
 use mathlib.Core.Path.{_≡_, refl, sym, ap, _∙_}
-use mathlib.Core.Bool.{true, not, _&&_, _||_, true≢false}
+use mathlib.Core.Bool.{true, not, _||_, true≢false}
 use mathlib.Core.List.{List, [], _∷_}
 use mathlib.Core.Option.{Option, none, some}
 use lib.Dec.{eqb, leb}
-use lib.IntN.{pos}
+use lib.IntN.{ℤ, pos}
 use lib.ListN.{length, take}
 use borrow.Author.Tests.{eqb-true, leb-true, le-leb, not-true}
+use Rattle.numbers.specs.Border.{eqZ}
 use Rattle.numbers.specs.Bytes.{same}
 use Rattle.numbers.proofs.Border.{eqZ-true}
 use Rattle.numbers.proofs.Bytes.{same-true}
@@ -23,11 +24,8 @@ use Rattle.row.specs.declared.Row.{Row}
 use Rattle.search.specs.Search.{isFound, found, ifFound, all, Each, Found}
 use Rattle.search.proofs.Each.{each-true, each-at-true, found-true, if-found-true}
 use Rattle.succession.proofs.Moves.{same-status}
-use Rattle.answers.specs.declared.Answer.{Answer}
-use Rattle.answers.specs.declared.Answer.the-variants.{Done, Refused}
+use Rattle.answers.specs.Answers.{orderReply, readReply}
 use Rattle.table.specs.Table.{placeOf}
-use Rattle.answers.specs.declared.OrderAnswer.{OrderAnswer}
-use Rattle.answers.specs.declared.OrderAnswer.the-variants.{Order as Ordered, NoOrder}
 use Rattle.coordinator.specs.Coordinator.{logEnd}
 use Rattle.coordinator.specs.Order.{order}
 use Rattle.coordinator.proofs.OpenCases.{any-numbers, open-number}
@@ -35,13 +33,13 @@ use Rattle.coordinator.proofs.OrderCases.{order-same}
 use Rattle.partition.specs.Limits.{entryWords}
 use Rattle.answers.specs.declared.ReadAnswer.{ReadAnswer}
 use Rattle.answers.specs.declared.ReadAnswer.the-variants.{Copied, Refused as ReadRefused}
-use Rattle.partition.specs.Read.{standsUnder, readAnswer, readOut}
+use Rattle.partition.specs.Read.{readAnswer, readOut}
 use Rattle.log_reader.specs.Records.{framesOf}
-use Rattle.runs.specs.History.{Order, Produced, History, ordersIn, producedIn, markersIn, collect, WithBefore, collectWithBefore, Logged, recordsOf, contents, endOf, flushedOf, recordNumbered, latestOf, nextOf, listed, isCompleted, completedPrepares, pendingPrepares, transaction, carriedFor, markersFor, wordsOf}
-use Rattle.runs.specs.World.{Leader, Phase, up, down, Carrying, nothing, toDeliver, toAcknowledge, World, catalogueOf, leaderAt, Item, run}
-use Rattle.runs.specs.Demand3.{Completes, Kept, Ends, SameLengths, LogAgrees, Entitled, WordsAgree, IsFor, ForFlushedPrepare, OneMarker, UnderItsVerdict, GivenUpTo, OrdersGiven, AckDone, CarryingAccepted, CompletesInTime, Restarts, HoldsAt}
+use Rattle.runs.specs.History.{Order, Produced, History, ordersIn, givenIn, producedIn, markersIn, collect, WithBefore, collectWithBefore, Logged, recordsOf, contents, endOf, flushedOf, epochOpened, recordNumbered, latestOf, nextOf, listed, isCompleted, completedPrepares, pendingPrepares, transaction, markerOver, carriedFor, markersFor, wordsOf}
+use Rattle.runs.specs.World.{Leader, Phase, up, down, Carrying, nothing, toDeliver, toAcknowledge, World, catalogueOf, Item, run}
+use Rattle.runs.specs.Demand3.{Completes, Keeps, Kept, Ends, SameLengths, LogAgrees, Entitled, WordsAgree, IsFor, ForFlushedPrepare, OfLastOpening, OneMarker, UnderItsVerdict, GivenUpTo, OrdersGiven, AckDone, CarryingAccepted, CompletesInTime, Restarts, HoldsAt}
 use Rattle.runs.specs.InEveryRun.{ReadsFrom}
-use Rattle.run_examples.specs.Checks.{sameRecord, sameLogged, completes, kept, ends, sameLengths, logAgrees, entitled, wordsAgree, isFor, forFlushedPrepare, oneMarker, standsUnderVerdict, underItsVerdict, isDone, ackDone, carryingAccepted, completesInTime, givenUpTo, ordersGiven, restarts, holdsAt, isCopied, readsFrom}
+use Rattle.run_examples.specs.Checks.{sameRecord, completes, kept, ends, sameLengths, logAgrees, entitled, wordsAgree, isFor, forFlushedPrepare, ofLastOpening, oneMarker, standsUnderVerdict, underItsVerdict, ackDone, carryingAccepted, completesInTime, givenUpTo, ordersGiven, restarts, holdsAt, isCopied, readsFrom}
 
 -- ---- kept
 
@@ -75,27 +73,16 @@ same-record a b e = go
     go : a ≡ b
     go = λ i. record { name = names i; pid = pids i; epoch = epochs i; timeout = timeouts i; status = statuses i; joined = sets i; updated = updates i; start = starts i }
 
-same-logged : (x p : Logged) → sameLogged x p ≡ true → x ≡ p
-same-logged x p e = go
-  where
-    numbers : x .number ≡ p .number
-    numbers = eqb-true (x .number) (p .number) (search (and-left, and-right) depth 10)
-
-    contentsSame : x .content ≡ p .content
-    contentsSame =
-        let rest = eqb (x .number) (p .number) && sameRecord (x .content) (p .content) in
-        same-record (x .content) (p .content)
-        (and-right (eqb (x .number) (p .number)) (sameRecord (x .content) (p .content)) (and-left rest (eqb (x .end) (p .end)) e))
-
-    ended : x .end ≡ p .end
-    ended = eqb-true (x .end) (p .end) (search (and-left, and-right) depth 10)
-
-    go : x ≡ p
-    go = λ i. record { number = numbers i; content = contentsSame i; end = ended i }
-
-same-found : (p : Logged) (o : Option Logged) → found (λ (x : Logged). sameLogged x p) o ≡ true → o ≡ some p
-same-found p none e = not-both refl e
-same-found p (some x) e = ap some (same-logged x p e)
+keeps-true : (p x : Logged) → sameRecord (x .content) (p .content) ≡ true → Keeps p x
+keeps-true p x e =
+    let is = same-record (x .content) (p .content) e in
+    record {
+      verdict = ap (λ (r : Record). statusCode (r .status)) is;
+      pid = ap (λ (r : Record). r .pid) is;
+      epoch = ap (λ (r : Record). r .epoch) is;
+      partitions = ap (λ (r : Record). r .joined) is;
+      unchanged = is;
+    }
 
 completes-true : (p c : Logged) → completes p c ≡ true → Completes p c
 completes-true p c e =
@@ -110,8 +97,8 @@ kept-true w p e =
     let stands = recordNumbered (p .number) (w .history) in
     let next = nextOf p (w .history) in
     record {
-      stands = same-found p stands (and-left (found (λ (x : Logged). sameLogged x p) stands) (ifFound (completes p) next) e);
-      next = if-found-true (Completes p) (completes p) (completes-true p) next (and-right (found (λ (x : Logged). sameLogged x p) stands) (ifFound (completes p) next) e);
+      stands = found-true (Keeps p) (λ (x : Logged). sameRecord (x .content) (p .content)) (keeps-true p) stands (and-left (found (λ (x : Logged). sameRecord (x .content) (p .content)) stands) (ifFound (completes p) next) e);
+      next = if-found-true (Completes p) (completes p) (completes-true p) next (and-right (found (λ (x : Logged). sameRecord (x .content) (p .content)) stands) (ifFound (completes p) next) e);
     }
 
 -- ---- the log and the words
@@ -190,31 +177,32 @@ is-for-true p =
 for-flushed-true : (w : World) → forFlushedPrepare w ≡ true → ForFlushedPrepare w
 for-flushed-true w e = each-true _ isFor is-for-true (collectWithBefore ordersIn (w .history)) e
 
+of-opening-true : (w : World) → ofLastOpening w ≡ true → OfLastOpening w
+of-opening-true w e =
+    each-true _ (λ (p : WithBefore Order). eqZ (p .what .coordinator) (epochOpened (p .before))) (λ p. eqZ-true (p .what .coordinator) (epochOpened (p .before)))
+    (collectWithBefore givenIn (w .history)) e
+
 one-marker-true : (w : World) → oneMarker w ≡ true → OneMarker w
 one-marker-true w e =
     each-true _ (λ (o : Order). eqb (markersFor o (w .history)) 1) (λ o. eqb-true (markersFor o (w .history)) 1) (collect markersIn (w .history)) e
 
 under-true : (w : World) → underItsVerdict w ≡ true → UnderItsVerdict w
 under-true w e =
-    each-true _ (λ (p : Logged). all (standsUnderVerdict w (p .content .status)) (transaction p (w .history)))
-    (λ p t. each-true _ (standsUnderVerdict w (p .content .status))
-    (λ d. let l = leaderAt w (d .position) in eqb-true (statusCode (p .content .status)) (standsUnder (l .words) (l .partition .end) (d .offset) + 1))
+    each-true _ (λ (p : Logged). all (standsUnderVerdict (w .history) (p .content .status)) (transaction p (w .history)))
+    (λ p t. each-true _ (standsUnderVerdict (w .history) (p .content .status))
+    (λ d. found-true _ (λ (m : Order). eqb (statusCode (p .content .status)) (m .verdict + 2)) (λ m. eqb-true (statusCode (p .content .status)) (m .verdict + 2)) (markerOver (w .history) d))
     (transaction p (w .history)) t)
     (completedPrepares (w .history)) e
 
 -- ---- progress
 
-done-true : (a : Answer) → isDone a ≡ true → a ≡ Done
-done-true Done e = refl
-done-true (Refused number) e = not-both refl e
-
 ack-true : (phase : Phase) (w : World) (o : Order) → ackDone phase w o ≡ true → AckDone phase w o
-ack-true (up s) w o e = done-true _ e
+ack-true (up s) w o e = eqb-true _ 0 e
 ack-true (down n epoch) w o e = not-both refl e
 
 carrying-true : (c : Carrying) (w : World) → carryingAccepted c w ≡ true → CarryingAccepted c w
 carrying-true nothing w e = tt
-carrying-true (toDeliver i o) w e = done-true _ e
+carrying-true (toDeliver i o) w e = eqb-true _ 0 e
 carrying-true (toAcknowledge i o) w e = ack-true (w .phase) w o e
 
 pub in-time-true : (w : World) (items : List Item) → completesInTime w (run items w) ≡ true → CompletesInTime w items
@@ -225,14 +213,14 @@ in-time-true w items e undisturbed =
     (λ few. absurd (true≢false (sym (le-leb _ _ enough) ∙ not-true _ few))) (λ done. done))
     (pendingPrepares (w .history)) e
 
-given-true : (place : ℕ) (a : OrderAnswer) → givenUpTo place a ≡ true → GivenUpTo place a
-given-true place (Ordered at pid epoch verdict position coordinator) e = leb-true at place e
-given-true place NoOrder e = not-both refl e
+given-true : (place : ℕ) (results : List ℤ) → givenUpTo place results ≡ true → GivenUpTo place results
+given-true place [] e = not-both refl e
+given-true place (at ∷ results) e = e
 
 orders-true : (phase : Phase) (w : World) → ordersGiven phase w ≡ true → OrdersGiven phase w
 orders-true (up s) w e =
-    each-true _ (λ (p : Logged). givenUpTo (placeOf (s .table) (p .content .name)) (order s (catalogueOf w .all)))
-    (λ p t set more. rw (order-same s (catalogueOf w .all) set more within) (given-true (placeOf (s .table) (p .content .name)) (order s (catalogueOf w .all)) t))
+    each-true _ (λ (p : Logged). givenUpTo (placeOf (s .table) (p .content .name)) (orderReply (order s (catalogueOf w .all)) .results))
+    (λ p t set more. rw (order-same s (catalogueOf w .all) set more within) (given-true (placeOf (s .table) (p .content .name)) (orderReply (order s (catalogueOf w .all)) .results) t))
     (pendingPrepares (w .history)) (search (and-left, and-right))
   where
     within : Each (λ (row : Row). subset (outstanding row) (catalogueOf w .all) ≡ true) (s .table .rows)
@@ -256,6 +244,7 @@ holds-true w e =
       log-agrees = log-true w (search (and-left, and-right) depth 12);
       words-agree = words-true w (search (and-left, and-right) depth 12);
       for-flushed-prepare = for-flushed-true w (search (and-left, and-right) depth 12);
+      of-last-opening = of-opening-true w (search (and-left, and-right) depth 12);
       one-marker = one-marker-true w (search (and-left, and-right) depth 12);
       under-its-verdict = under-true w (search (and-left, and-right) depth 12);
       orders-given = orders-true (w .phase) w (search (and-left, and-right) depth 12);
@@ -281,6 +270,6 @@ copied-true (ReadRefused number) n m e = not-both refl e
 pub reads-true : (w : World) (x : ℕ) (l : Leader) (from : ℕ) (out : List ℕ) → readsFrom w x l from out ≡ true → ReadsFrom w x l from out
 reads-true w x l from out e =
     record {
-      answers = copied-true (readAnswer (l .partition) (l .words) from out) _ _ (search (and-left, and-right));
+      answers = ap readReply (copied-true (readAnswer (l .partition) (l .words) from out) _ _ (search (and-left, and-right)));
       copies = same-true (readOut (l .partition) (l .words) from out) _ (search (and-left, and-right));
     }

@@ -1,10 +1,11 @@
 -- The clauses of demand 3 as tests, so that they compute on an example.
 use Prim.Native.Nat.{ℕ, _+_, _*_, min}
 use mathlib.Core.Bool.{Bool, true, false, not, _&&_, _||_}
-use mathlib.Core.List.{List, [], _∷_, map}
+use mathlib.Core.List.{List, [], _∷_}
 use lib.Dec.{eqb, leb}
-use lib.IntN.{pos}
+use lib.IntN.{ℤ, pos}
 use lib.ListN.{length, take, getD}
+use lib.Signed.{leZ}
 use Rattle.numbers.specs.Border.{eqZ}
 use Rattle.numbers.specs.Bytes.{laid, same}
 use Rattle.bits.specs.Bits.{member, subset}
@@ -18,25 +19,21 @@ use Rattle.row.specs.declared.Row.{Row}
 use Rattle.search.specs.Search.{isFound, found, ifFound, all, allAt}
 use Rattle.succession.specs.Moves.{sameStatus}
 use Rattle.table.specs.Table.{placeOf}
-use Rattle.answers.specs.Answers.{openReply}
-use Rattle.answers.specs.declared.Answer.{Answer}
-use Rattle.answers.specs.declared.Answer.the-variants.{Done, Refused}
+use Rattle.answers.specs.Answers.{reply, orderReply}
 use Rattle.coordinator.specs.Coordinator.{logEnd}
-use Rattle.coordinator.specs.Open.{opening}
 use Rattle.coordinator.specs.Order.{order}
-use Rattle.coordinator.specs.Ack.{ack}
+use Rattle.coordinator.specs.Calls.{ackCall, answered}
 use Rattle.partition.specs.Limits.{entryWords}
 use Rattle.partition.specs.Marker.{marker}
-use Rattle.answers.specs.declared.OrderAnswer.{OrderAnswer}
-use Rattle.answers.specs.declared.OrderAnswer.the-variants.{Order as Ordered, NoOrder}
 use Rattle.answers.specs.declared.ReadAnswer.{ReadAnswer}
 use Rattle.answers.specs.declared.ReadAnswer.the-variants.{Copied, Refused as ReadRefused}
 use Rattle.partition.specs.Partition.{stableEnd}
-use Rattle.partition.specs.Read.{standsUnder, readAnswer, readOut}
+use Rattle.partition.specs.Read.{readAnswer, readOut}
 use Rattle.log_reader.specs.Records.{framesOf}
-use Rattle.runs.specs.History.{Order, Produced, History, ordersIn, producedIn, markersIn, collect, WithBefore, collectWithBefore, Logged, recordsOf, contents, endOf, flushedOf, isFlushed, recordNumbered, latestOf, nextOf, listed, isCompleted, completedPrepares, pendingPrepares, transaction, carriedFor, markersFor, wordsOf}
+use Rattle.writer.specs.Writer.{openingReply}
+use Rattle.runs.specs.History.{Order, Produced, History, ordersIn, givenIn, producedIn, markersIn, collect, WithBefore, collectWithBefore, Logged, recordsOf, contents, endOf, flushedOf, epochOpened, isFlushed, recordNumbered, latestOf, nextOf, listed, isCompleted, completedPrepares, pendingPrepares, transaction, markerOver, carriedFor, markersFor, wordsOf}
 use Rattle.runs.specs.World.{Leader, Phase, up, down, Carrying, nothing, toDeliver, toAcknowledge, World, catalogueOf, leaderAt}
-use Rattle.runs.specs.InEveryRun.{committedBetween}
+use Rattle.runs.specs.InEveryRun.{committedBetween, offsets, payloads}
 
 -- ---- kept
 
@@ -51,9 +48,6 @@ sameRecord a b =
     && eqZ (a .updated) (b .updated)
     && eqZ (a .start) (b .start)
 
-abbrev pub sameLogged : Logged → Logged → Bool
-sameLogged a b = eqb (a .number) (b .number) && sameRecord (a .content) (b .content) && eqb (a .end) (b .end)
-
 abbrev pub completes : Logged → Logged → Bool
 completes p c =
     eqb (statusCode (c .content .status)) (statusCode (p .content .status) + 2)
@@ -61,7 +55,7 @@ completes p c =
     && eqZ (c .content .epoch) (p .content .epoch)
 
 abbrev pub kept : World → Logged → Bool
-kept w p = found (λ (x : Logged). sameLogged x p) (recordNumbered (p .number) (w .history)) && ifFound (completes p) (nextOf p (w .history))
+kept w p = found (λ (x : Logged). sameRecord (x .content) (p .content)) (recordNumbered (p .number) (w .history)) && ifFound (completes p) (nextOf p (w .history))
 
 -- ---- the log and the words are the history's
 
@@ -115,31 +109,29 @@ isFor p =
 abbrev pub forFlushedPrepare : World → Bool
 forFlushedPrepare w = all isFor (collectWithBefore ordersIn (w .history))
 
+abbrev pub ofLastOpening : World → Bool
+ofLastOpening w = all (λ (p : WithBefore Order). eqZ (p .what .coordinator) (epochOpened (p .before))) (collectWithBefore givenIn (w .history))
+
 abbrev pub oneMarker : World → Bool
 oneMarker w = all (λ (o : Order). eqb (markersFor o (w .history)) 1) (collect markersIn (w .history))
 
-abbrev pub standsUnderVerdict : World → Status → Produced → Bool
-standsUnderVerdict w status e =
-    let l = leaderAt w (e .position) in eqb (statusCode status) (standsUnder (l .words) (l .partition .end) (e .offset) + 1)
+abbrev pub standsUnderVerdict : History → Status → WithBefore Produced → Bool
+standsUnderVerdict h status e = found (λ (m : Order). eqb (statusCode status) (m .verdict + 2)) (markerOver h e)
 
 abbrev pub underItsVerdict : World → Bool
 underItsVerdict w =
-    all (λ (p : Logged). all (standsUnderVerdict w (p .content .status)) (transaction p (w .history))) (completedPrepares (w .history))
+    all (λ (p : Logged). all (standsUnderVerdict (w .history) (p .content .status)) (transaction p (w .history))) (completedPrepares (w .history))
 
 -- ---- progress
 
-abbrev pub isDone : Answer → Bool
-isDone Done = true
-isDone (Refused number) = false
-
 abbrev pub ackDone : Phase → World → Order → Bool
-ackDone (up s) w o = isDone (ack s (length (w .log)) (o .place) (o .pid) (o .epoch) (o .position) .answer)
+ackDone (up s) w o = eqb (answered (ackCall (o .place) (o .pid) (o .epoch) (o .position)) (record { state = s; log = w .log }) .number) 0
 ackDone (down n epoch) w o = false
 
 abbrev pub markerDone : World → Order → Bool
 markerDone w o =
     let l = leaderAt w (o .position) in
-    isDone (marker (l .partition) (length (l .words)) (o .place) (o .pid) (o .epoch) (o .verdict) (o .coordinator) .answer)
+    eqb (reply (marker (l .partition) (length (l .words)) (o .place) (o .pid) (o .epoch) (o .verdict) (o .coordinator) .answer) .number) 0
 
 abbrev pub carryingAccepted : Carrying → World → Bool
 carryingAccepted nothing w = true
@@ -152,15 +144,15 @@ completesInTime w v =
     all (λ (p : Logged). not (leb (carriedFor p (w .history) + listed p) (carriedFor p (v .history))) || isCompleted (v .history) p)
     (pendingPrepares (w .history))
 
-abbrev pub givenUpTo : ℕ → OrderAnswer → Bool
-givenUpTo place (Ordered at pid epoch verdict position coordinator) = leb at place
-givenUpTo place NoOrder = false
+abbrev pub givenUpTo : ℕ → List ℤ → Bool
+givenUpTo place [] = false
+givenUpTo place (at ∷ results) = leZ at (pos place)
 
 -- every outstanding position is in the catalogue: so an Order answers the same whatever else is up than all partitions
 abbrev pub ordersGiven : Phase → World → Bool
 ordersGiven (up s) w =
     all (λ (row : Row). subset (outstanding row) (catalogueOf w .all)) (s .table .rows)
-    && all (λ (p : Logged). givenUpTo (placeOf (s .table) (p .content .name)) (order s (catalogueOf w .all))) (pendingPrepares (w .history))
+    && all (λ (p : Logged). givenUpTo (placeOf (s .table) (p .content .name)) (orderReply (order s (catalogueOf w .all)) .results)) (pendingPrepares (w .history))
 ordersGiven (down n epoch) w = true
 
 -- ---- restart
@@ -168,7 +160,7 @@ ordersGiven (down n epoch) w = true
 -- an opening with these numbers is accepted: so is one with any that are in order
 abbrev pub restarts : Phase → World → Bool
 restarts (up s) w = true
-restarts (down n before) w = eqb (openReply (opening (w .text) (w .log) n (pos 0) (pos 0) (pos 0) .answer) .number) 0
+restarts (down n before) w = eqb (openingReply (w .text) (w .log) n (pos 0) (pos 0) (pos 0) .number) 0
 
 -- what holds at every moment
 abbrev pub holdsAt : World → Bool
@@ -176,6 +168,7 @@ holdsAt w =
     logAgrees w
     && wordsAgree w
     && forFlushedPrepare w
+    && ofLastOpening w
     && oneMarker w
     && underItsVerdict w
     && ordersGiven (w .phase) w
@@ -190,6 +183,6 @@ isCopied (ReadRefused number) n m = false
 
 abbrev pub readsFrom : World → ℕ → Leader → ℕ → List ℕ → Bool
 readsFrom w x l from out =
-    let entries = committedBetween l x from (stableEnd (l .partition)) (w .history) in
-    isCopied (readAnswer (l .partition) (l .words) from out) (min (length out) (length entries)) (getD (map (λ (e : Produced). e .offset) entries) (length out) (stableEnd (l .partition)))
-    && same (readOut (l .partition) (l .words) from out) (laid out 0 (take (length out) (map (λ (e : Produced). e .payload) entries)))
+    let entries = committedBetween x from (stableEnd (l .partition)) (w .history) in
+    isCopied (readAnswer (l .partition) (l .words) from out) (min (length out) (length entries)) (getD (offsets entries) (length out) (stableEnd (l .partition)))
+    && same (readOut (l .partition) (l .words) from out) (laid out 0 (take (length out) (payloads entries)))

@@ -1,7 +1,7 @@
 -- The examples: clauses of demand 3 on example runs, each as one test that computes.
 use Prim.Native.Nat.{ℕ}
 use mathlib.Core.Bool.{Bool, _&&_}
-use mathlib.Core.List.{List, [], _∷_, _++_}
+use mathlib.Core.List.{List, [], _∷_, _++_, map}
 use lib.Dec.{eqb}
 use lib.IntN.{pos}
 use lib.ListN.{length, take}
@@ -15,11 +15,12 @@ use Rattle.coordinator.specs.Coordinator.{logEnd}
 use Rattle.coordinator.specs.Open.{opening}
 use Rattle.coordinator.specs.declared.OpenedLog.{OpenedLog}
 use Rattle.log_reader.specs.Records.{framesOf}
-use Rattle.runs.specs.History.{Logged, collect, carriedIn, markersIn, flushedPrepares, pendingPrepares, completedPrepares, transaction}
+use Rattle.runs.specs.History.{Order, Logged, collect, carriedIn, markersIn, flushedPrepares, pendingPrepares, completedPrepares, transaction}
 use Rattle.runs.specs.World.{World, start, leaderAt, own, Item, callOrder, deliver, cut, run}
-use Rattle.writer.specs.Writer.{Writer, writes}
+use Rattle.coordinator.specs.Calls.{Writer}
+use Rattle.writer.specs.Writer.{writes}
 use Rattle.run_examples.specs.Checks.{kept, completesInTime, forFlushedPrepare, underItsVerdict, holdsAt, readsFrom}
-use Rattle.run_examples.specs.Runs.{scanText, buffer, lengthLeft, opened, both, carry, reopening, prepared, straight, afterCut, afterShared, orderedEarly, flushedShort, flushedPast, restarted, restartedCarried, completeLost, completeLostCarried, widenedEarly, tickedLate, carriedLate, carriedTwice, acknowledgedOnly, openedLater, lentOthers, writerItems, leftRecords, leftRest}
+use Rattle.run_examples.specs.Runs.{scanText, buffer, lengthLeft, opened, both, carry, reopening, prepared, straight, afterCut, afterShared, orderedEarly, flushedShort, flushedPast, restarted, restartedCarried, completeLost, completeLostCarried, widenedEarly, tickedLate, ticked, tickedCarried, someDown, allDown, sameEpoch, sameEpochCarried, twoPrepared, twoCarried, carriedLate, carriedTwice, acknowledgedOnly, openedLater, lentOthers, writerItems, leftRecords, leftRest}
 
 pub data Example : Type 0 where
   -- one of two acknowledgements is there
@@ -38,6 +39,14 @@ pub data Example : Type 0 where
   ordersAfterRestart completesAfterRestart completesAgain : Example
   -- "Aborting a recovered prepare because its timeout has passed."
   timeoutPassed : Example
+  -- a Tick aborts, and what was written stands under ABORT
+  tickAborts : Example
+  -- "the lowest joined, unacknowledged, up position; else the next place"
+  partitionsDown : Example
+  -- "which never lowers the coordinator epoch": an equal one is accepted
+  equalEpoch : Example
+  -- two prepares are pending at two places
+  twoPending : Example
   -- between a cut inside a frame and the opening, which is accepted
   cutInsideFrame : Example
   -- the cut run from there
@@ -103,6 +112,10 @@ holds ordersAfterRestart = let w = after completeLost in eqb (length (pendingPre
 holds completesAfterRestart = promised (after restarted) (after restartedCarried)
 holds completesAgain = promised (after completeLost) (after completeLostCarried)
 holds timeoutPassed = promised (after restarted) (after tickedLate)
+holds tickAborts = promised (after ticked) (after tickedCarried)
+holds partitionsDown = promised (after prepared) (after someDown) && holdsAt (after allDown)
+holds equalEpoch = let w = after sameEpochCarried in promised (after sameEpoch) w && eqb (length (completedPrepares (w .history))) 1
+holds twoPending = let w = after twoPrepared in eqb (length (pendingPrepares (w .history))) 2 && promised w (after twoCarried)
 holds cutInsideFrame = promised afterShared (run (cut lengthLeft ∷ []) afterShared)
 holds cutRun = promised afterShared cutRunEnd
 holds openedWithRecords = promised (start openedLater) laterEnd
@@ -133,3 +146,9 @@ holds runsAsDescribed =
     && hasFigures (run (carry 9) (after prepared)) 0 0 1 1
     && hasFigures laterEnd 1 0 2 0
     && hasFigures (after lentOthers) 0 0 0 1
+    && hasFigures (after tickedCarried) 1 2 2 2
+    && hasFigures (after someDown) 1 2 2 2
+    && same (map (λ (m : Order). m .position) (collect markersIn (after someDown .history))) (0 ∷ 1 ∷ [])
+    && hasFigures (after allDown) 0 0 0 0
+    && hasFigures (after sameEpochCarried) 1 2 2 2
+    && hasFigures (after twoCarried) 2 3 3 3

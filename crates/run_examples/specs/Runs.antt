@@ -1,14 +1,14 @@
 -- Example runs: a commit over two partitions that a restart splits, with a cut inside a frame; and, for each reading that tempts, a run in which it would do harm.
 use Prim.Native.Nat.{ℕ}
-use mathlib.Core.List.{List, [], _∷_, _++_}
+use mathlib.Core.List.{List, [], _∷_, _++_, map}
 use lib.IntN.{pos}
 use lib.ListN.{take, drop, replicate}
 use Rattle.record.specs.declared.Record.{Record}
 use Rattle.server.specs.Lines.{rig7}
 use Rattle.runs.specs.History.{recordsOf, contents}
-use Rattle.writer.specs.LogCalls.{callInit, callAdd, callEnd, callTick}
-use Rattle.runs.specs.World.{World, FirstOpening, start, own, another, Item, call, callFlush, callOrder, callProduce, callRead, deliver, acknowledge, cut, reopen, run}
-use Rattle.writer.specs.Writer.{WriterItem, logCall, flushCall}
+use Rattle.coordinator.specs.Calls.{initCall, addCall, endCall, tickCall, flushCall}
+use Rattle.runs.specs.World.{World, FirstOpening, start, own, another, Item, call, callOrder, callProduce, callRead, deliver, acknowledge, cut, reopen, run}
+use Rattle.writer.specs.Writer.{WriterItem, call as byWriter}
 
 -- `scan` with two partitions
 abbrev pub scanText : List ℕ
@@ -43,7 +43,7 @@ both = 3
 
 -- Add of a set
 abbrev pub join : ℕ → Item
-join set = call own (callAdd rig7 (pos 1000) (pos 0) set (pos 110))
+join set = call own (addCall rig7 (pos 1000) (pos 0) set (pos 110))
 
 -- its first entry at a partition
 abbrev pub put : ℕ → Item
@@ -51,7 +51,11 @@ put position = callProduce own 0 rig7 (pos 1000) (pos 0) position (pos 0) 501
 
 -- End with COMMIT
 abbrev pub ending : Item
-ending = call own (callEnd rig7 (pos 1000) (pos 0) 0 (pos 120))
+ending = call own (endCall rig7 (pos 1000) (pos 0) 0 (pos 120))
+
+-- Flush of this length
+abbrev pub flushing : ℕ → Item
+flushing n = call own (flushCall n)
 
 -- Order with both partitions up, and the order of this event carried
 abbrev pub carry : ℕ → List Item
@@ -65,19 +69,19 @@ reopening = reopen (pos 2) (pos 1000) (pos 1999)
 
 -- Init, flushed: the log ends at 53, and the next event is 3
 abbrev pub initialized : List Item
-initialized = call own (callInit rig7 (pos 60000) (pos 100)) ∷ callFlush 53 ∷ []
+initialized = call own (initCall rig7 (pos 60000) (pos 100)) ∷ flushing 53 ∷ []
 
 -- Add of both partitions, flushed, and an entry at each: the log ends at 124, and the next event is 7
 abbrev pub beginning : List Item
-beginning = initialized ++ (join both ∷ callFlush 124 ∷ put 0 ∷ put 1 ∷ [])
+beginning = initialized ++ (join both ∷ flushing 124 ∷ put 0 ∷ put 1 ∷ [])
 
 -- End, flushed: the log ends at 195, and the next event is 9
 abbrev pub prepared : List Item
-prepared = beginning ++ (ending ∷ callFlush 195 ∷ [])
+prepared = beginning ++ (ending ∷ flushing 195 ∷ [])
 
 -- the order for partition 0 is carried, and Init of `lab3` is appended and not flushed: the log ends at 248, and the next event is 13
 abbrev pub shared : List Item
-shared = prepared ++ carry 9 ++ (call own (callInit lab3 (pos 60000) (pos 130)) ∷ [])
+shared = prepared ++ carry 9 ++ (call own (initCall lab3 (pos 60000) (pos 130)) ∷ [])
 
 -- the straight run: the order for partition 1 is carried, which completes the transaction
 abbrev pub straight : List Item
@@ -100,12 +104,13 @@ afterShared = run shared (start opened)
 -- the calls that leave the first three records
 abbrev pub writerItems : List WriterItem
 writerItems =
-    logCall (callInit rig7 (pos 60000) (pos 100)) ∷
+    map byWriter
+    (initCall rig7 (pos 60000) (pos 100) ∷
     flushCall 53 ∷
-    logCall (callAdd rig7 (pos 1000) (pos 0) both (pos 110)) ∷
+    addCall rig7 (pos 1000) (pos 0) both (pos 110) ∷
     flushCall 124 ∷
-    logCall (callEnd rig7 (pos 1000) (pos 0) 0 (pos 120)) ∷
-    []
+    endCall rig7 (pos 1000) (pos 0) 0 (pos 120) ∷
+    [])
 
 -- the records that that cut leaves whole, and the 25 bytes behind them
 abbrev pub leftRecords : List Record
@@ -119,15 +124,15 @@ leftRest = drop 195 (take lengthLeft (afterShared .log))
 -- an Order between End and its flush, as if it were carried; then a cut loses the prepare, and Init aborts the transaction
 abbrev pub orderedEarly : List Item
 orderedEarly =
-    beginning ++ (ending ∷ []) ++ carry 8 ++ (cut 124 ∷ reopening ∷ call own (callInit rig7 (pos 60000) (pos 130)) ∷ callFlush 195 ∷ []) ++ carry 12 ++ carry 15
+    beginning ++ (ending ∷ []) ++ carry 8 ++ (cut 124 ∷ reopening ∷ call own (initCall rig7 (pos 60000) (pos 130)) ∷ flushing 195 ∷ []) ++ carry 12 ++ carry 15
 
 -- the same, with the flushed length one byte before the end of the prepare
 abbrev pub flushedShort : List Item
-flushedShort = beginning ++ (ending ∷ callFlush 194 ∷ []) ++ carry 9
+flushedShort = beginning ++ (ending ∷ flushing 194 ∷ []) ++ carry 9
 
 -- a Flush one byte past the end
 abbrev pub flushedPast : List Item
-flushedPast = initialized ++ (callFlush 54 ∷ [])
+flushedPast = initialized ++ (flushing 54 ∷ [])
 
 -- a prepare, none of whose orders is carried before the cut; then both are
 abbrev pub restarted : List Item
@@ -146,17 +151,64 @@ completeLostCarried = completeLost ++ carry 18 ++ carry 20
 -- partition 1 joins and is not flushed, an entry is tried there, and a cut loses the widening; then partition 0 alone is committed
 abbrev pub widenedEarly : List Item
 widenedEarly =
-    initialized ++ (join 1 ∷ callFlush 120 ∷ put 0 ∷ join 2 ∷ put 1 ∷ cut 120 ∷ reopening ∷ ending ∷ callFlush 187 ∷ []) ++ carry 11
+    initialized ++ (join 1 ∷ flushing 120 ∷ put 0 ∷ join 2 ∷ put 1 ∷ cut 120 ∷ reopening ∷ ending ∷ flushing 187 ∷ []) ++ carry 11
 
 -- a Tick long after the timeout of a prepare that was recovered
 abbrev pub tickedLate : List Item
-tickedLate = restarted ++ (call own (callTick (pos 999999)) ∷ [])
+tickedLate = restarted ++ (call own (tickCall (pos 999999)) ∷ [])
+
+-- ---- more than one transaction, verdict or coordinator
+
+-- the transaction outlives its timeout and is aborted by a Tick: the log ends at 195, the next event is 9
+abbrev pub ticked : List Item
+ticked = beginning ++ (call own (tickCall (pos 60111)) ∷ flushing 195 ∷ [])
+
+abbrev pub tickedCarried : List Item
+tickedCarried = ticked ++ carry 9 ++ carry 12
+
+-- partition 1 alone is up, then partition 0 alone
+abbrev pub carryUp : ℕ → ℕ → List Item
+carryUp up i = callOrder up ∷ deliver own i ∷ acknowledge own i ∷ []
+
+abbrev pub someDown : List Item
+someDown = prepared ++ carryUp 2 9 ++ carryUp 1 12
+
+-- none of the transaction's partitions is up
+abbrev pub allDown : List Item
+allDown = prepared ++ carryUp 4 9
+
+-- an opening with the coordinator epoch of the one before
+abbrev pub sameEpoch : List Item
+sameEpoch = prepared ++ (cut 195 ∷ reopen (pos 1) (pos 1000) (pos 1999) ∷ [])
+
+abbrev pub sameEpochCarried : List Item
+sameEpochCarried = sameEpoch ++ carry 11 ++ carry 14
+
+-- `rig7` commits both partitions and `lab3`, which has place 1 and pid 1001, aborts partition 0: the log ends at 382, the next event is 14
+abbrev pub twoPrepared : List Item
+twoPrepared =
+    initialized
+    ++ (call own (initCall lab3 (pos 60000) (pos 105)) ∷
+    flushing 106 ∷
+    join both ∷
+    call own (addCall lab3 (pos 1001) (pos 0) 1 (pos 111)) ∷
+    flushing 244 ∷
+    put 0 ∷
+    put 1 ∷
+    callProduce own 0 lab3 (pos 1001) (pos 0) 0 (pos 0) 601 ∷
+    ending ∷
+    call own (endCall lab3 (pos 1001) (pos 0) 1 (pos 121)) ∷
+    flushing 382 ∷
+    [])
+
+abbrev pub twoCarried : List Item
+twoCarried = twoPrepared ++ carry 14 ++ carry 17 ++ carry 21
 
 -- ---- what is not carried
 
 -- an order after which another call comes, and then its partition and its Ack
 abbrev pub carriedLate : List Item
-carriedLate = prepared ++ (callOrder both ∷ callFlush 195 ∷ deliver own 9 ∷ acknowledge own 9 ∷ [])
+carriedLate = prepared ++ (callOrder both ∷ flushing 195 ∷ deliver own 9 ∷ acknowledge own 9 ∷ [])
 
 -- an order that is given to its partition twice and acknowledged twice
 abbrev pub carriedTwice : List Item
@@ -176,7 +228,7 @@ openedLater = record { text = scanText; log = afterShared .log; length = lengthL
 abbrev pub lentOthers : List Item
 lentOthers =
     prepared
-    ++ (call (another []) (callInit lab3 (pos 60000) (pos 130)) ∷
+    ++ (call (another []) (initCall lab3 (pos 60000) (pos 130)) ∷
     callProduce (another []) 0 rig7 (pos 1000) (pos 0) 0 (pos 1) 502 ∷
     callProduce own 1 rig7 (pos 1000) (pos 0) 70 (pos 1) 502 ∷
     callRead own 0 0 [] ∷

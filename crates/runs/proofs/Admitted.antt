@@ -81,7 +81,7 @@ step-own x w o =
         of-log = let k = mine s u in let r = decided-reserved s (k .reserved) _ a d in record { reserved = r; room = log-length a s (w .log) r (k .room) };
         of-words = o .of-words;
       };
-      acts-elsewhere = λ l s u n h a d. record {
+      acts-elsewhere = λ l s u n h a d new. record {
         of-log = let k = mine s u in record { reserved = decided-reserved s (k .reserved) n a d; room = k .room ∙ sym (same-room a s) };
         of-words = o .of-words;
       };

@@ -1,6 +1,6 @@
 -- What an item does, by cases: of the next world holds what holds of each world that the item can leave.
 use Prim.Native.Nat.{ℕ}
-use mathlib.Core.Path.{_≡_, refl}
+use mathlib.Core.Path.{_≡_, refl, ap}
 use mathlib.Core.Bool.{true, _&&_}
 use lib.Dec.{eqb, leb}
 use lib.IntN.{ℤ, pos}
@@ -8,26 +8,30 @@ use lib.ListN.{length, set}
 use lib.Signed.{leZ}
 use borrow.Author.Tests.{eqb-true, eqb-false}
 use Rattle.numbers.proofs.Tests.{by-cases}
-use Rattle.answers.specs.Answers.{openReply}
 use Rattle.answers.specs.declared.OrderAnswer.{OrderAnswer}
 use Rattle.answers.specs.declared.OrderAnswer.the-variants.{Order as Ordered, NoOrder}
-use Rattle.coordinator.specs.Coordinator.{logEnd, Action, after}
+use Rattle.coordinator.specs.Coordinator.{logEnd, Action}
 use Rattle.coordinator.specs.Open.{opening}
 use Rattle.coordinator.specs.declared.Coordinator.{Coordinator}
 use Rattle.partition.specs.Partition.{Action as PartitionAction, after as partitionAfter}
 use Rattle.partition.specs.declared.Partition.{Partition}
+use Rattle.writer.specs.Writer.{openingReply}
 use Rattle.runs.specs.History.{Order, Event, logCut, logOpened, orderGiven}
-use Rattle.runs.specs.World.{Phase, up, down, Carrying, nothing, toDeliver, toAcknowledge, World, leaderAt, Lent, own, another, Item, typed, withCarrying, withEvent, withState, withPhase, withPartition, coordinatorDoes, coordinatorLent, whileUp, leaderDoes, leaderLent, orderedRecord, orderAnswered, deliverable, acknowledgeable, readCalled, cutAt, reopened, next, step}
+use Rattle.runs.specs.World.{Phase, up, down, Carrying, nothing, toDeliver, toAcknowledge, World, leaderAt, Lent, own, another, Item, inLists, withCarrying, withEvent, withPhase, withPartition, coordinatorDoes, coordinatorElsewhere, coordinatorLent, whileUp, leaderDoes, leaderLent, orderedRecord, orderAnswered, deliverable, acknowledgeable, readCalled, cutAt, reopened, next, step}
 
 -- an order is given
 abbrev pub withOrder : World → Order → World
 withOrder w o = withCarrying (withEvent w (orderGiven o)) (toDeliver (length (w .history)) o)
 
+-- an item does what it does while the coordinator is up
+pub while-up : (w : World) (s : Coordinator) → w .phase ≡ up s → (f : Coordinator → World) → whileUp (w .phase) w f ≡ f s
+while-up w s u f = ap (λ (p : Phase). whileUp p w f) u
+
 -- ---- the cases
 
 module _ (P : World → Type 0) where
-  pub step-cases : (x : Item) (w : World) → P w → (typed x ≡ true → P (next x w)) → P (step x w)
-  step-cases x w p f = by-cases P (typed x) f (λ t. p)
+  pub step-cases : (x : Item) (w : World) → P w → (inLists x ≡ true → P (next x w)) → P (step x w)
+  step-cases x w p f = by-cases P (inLists x) f (λ t. p)
 
   module _ (w : World) (same : P w) where
     pub while-up-cases : (f : Coordinator → World) → ((s : Coordinator) → w .phase ≡ up s → P (f s)) → P (whileUp (w .phase) w f)
@@ -39,7 +43,7 @@ module _ (P : World → Type 0) where
 
     pub lent-cases : (lent : Lent) (action : ℕ → Action) (s : Coordinator)
         → (lent ≡ own → P (coordinatorDoes (action (length (w .log))) s w))
-        → ((n : ℕ) → (n ≡ length (w .log) → ⊥) → P (withState w (after (action n) s)))
+        → ((n : ℕ) → (n ≡ length (w .log) → ⊥) → P (coordinatorElsewhere (action n) s w))
         → P (coordinatorLent lent action s w)
     lent-cases own action s f g = f refl
     lent-cases (another slice) action s f g = by-cases P (eqb (length slice) (length (w .log))) (λ e. same) (λ e. g (length slice) (eqb-false _ _ e))
@@ -76,15 +80,15 @@ module _ (P : World → Type 0) where
     cut-cases n s f = by-cases P (leb (s .flushed) n && leb n (logEnd s)) f (λ t. same)
 
     pub reopened-cases : (epoch first last : ℤ)
-        → ((n before : ℕ) → w .phase ≡ down n before → (eqb (openReply (opening (w .text) (w .log) n epoch first last .answer) .number) 0 && leZ (pos before) epoch) ≡ true
-        → P (withPhase w (up (opening (w .text) (w .log) n epoch first last .state)) logOpened))
+        → ((n before : ℕ) → w .phase ≡ down n before → (eqb (openingReply (w .text) (w .log) n epoch first last .number) 0 && leZ (pos before) epoch) ≡ true
+        → P (withPhase w (up (opening (w .text) (w .log) n epoch first last .state)) (logOpened epoch)))
         → P (reopened (w .phase) epoch first last w)
     reopened-cases epoch first last f = go (w .phase) refl
       where
         go : (p : Phase) → w .phase ≡ p → P (reopened p epoch first last w)
         go (up s) e = same
         go (down n before) e =
-            by-cases P (eqb (openReply (opening (w .text) (w .log) n epoch first last .answer) .number) 0 && leZ (pos before) epoch) (f n before e) (λ t. same)
+            by-cases P (eqb (openingReply (w .text) (w .log) n epoch first last .number) 0 && leZ (pos before) epoch) (f n before e) (λ t. same)
 
   pub answered-cases : (w : World) (s : Coordinator) (set : OrderAnswer) → P (withCarrying w nothing)
       → ((place : ℕ) (pid epoch : ℤ) (verdict position : ℕ) (coordinator : ℤ) → set ≡ Ordered place pid epoch verdict position coordinator

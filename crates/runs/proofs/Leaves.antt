@@ -12,13 +12,15 @@ use Rattle.answers.specs.declared.Answer.the-variants.{Refused}
 use Rattle.answers.proofs.Laws.{or-false-left, or-false-right, unless-does}
 use Rattle.coordinator.specs.Coordinator.{Action, keep, logAfter}
 use Rattle.coordinator.specs.Flush.{flushTests, flush}
+use Rattle.coordinator.specs.Calls.{flushCall, actionOf}
+use Rattle.coordinator.specs.declared.Coordinator.{Coordinator}
 use Rattle.coordinator.proofs.Reserve.{Reserved, opening-reserved}
 use Rattle.partition.proofs.Fits.{fits-length}
 use Rattle.writer.proofs.Decisions.{decided-reserved, decided-length}
 use Rattle.runs.specs.History.{History, eventsBefore, logCut, logOpened}
-use Rattle.runs.specs.World.{Leader, openLeader, Phase, up, down, World, leaderAt, Item, callFlush, coordinatorDoes, step, run}
+use Rattle.runs.specs.World.{Leader, openLeader, Phase, up, down, World, leaderAt, Lent, Item, call, coordinatorDoes, coordinatorElsewhere, step, run}
 use Rattle.runs.proofs.Run.{run-keeps, run-same}
-use Rattle.runs.proofs.Cases.{while-up-cases}
+use Rattle.runs.proofs.Cases.{while-up-cases, lent-cases}
 use Rattle.runs.proofs.Changes.{ofLog, isCut, isReopening, Touches, step-changes}
 use Rattle.runs.proofs.Decisions.{led-fits}
 
@@ -30,7 +32,7 @@ step-text x w =
     (record {
       rests = λ c new. refl;
       acts = λ l s u a d new. refl;
-      acts-elsewhere = λ l s u n o a d. refl;
+      acts-elsewhere = λ l s u n o a d new. refl;
       leads = λ y t a d c new. refl;
       leads-elsewhere = λ y t n o a d c. refl;
       cuts = λ i s u n e. refl;
@@ -49,7 +51,7 @@ same-leaders x w untouched =
     (record {
       rests = λ c new. refl;
       acts = λ l s u a d new. refl;
-      acts-elsewhere = λ l s u n o a d. refl;
+      acts-elsewhere = λ l s u n o a d new. refl;
       leads = λ y t a d c new. absurd (untouched y t);
       leads-elsewhere = λ y t n o a d c. absurd (untouched y t);
       cuts = λ i s u n e. refl;
@@ -63,7 +65,7 @@ other-leader x w y untouched =
     (record {
       rests = λ c new. refl;
       acts = λ l s u a d new. refl;
-      acts-elsewhere = λ l s u n o a d. refl;
+      acts-elsewhere = λ l s u n o a d new. refl;
       leads = λ z t a d c new. getD-set-other (w .leaders) z y _ (openLeader []) (λ e. untouched (subst (Touches x w) (sym e) t));
       leads-elsewhere = λ z t n o a d c. getD-set-other (w .leaders) z y _ (openLeader []) (λ e. untouched (subst (Touches x w) (sym e) t));
       cuts = λ i s u n e. refl;
@@ -77,7 +79,7 @@ same-log x w other =
     (record {
       rests = λ c new. refl;
       acts = λ l s u a d new. not-both other l;
-      acts-elsewhere = λ l s u n o a d. refl;
+      acts-elsewhere = λ l s u n o a d new. refl;
       leads = λ y t a d c new. refl;
       leads-elsewhere = λ y t n o a d c. refl;
       cuts = λ i s u n e. refl;
@@ -85,11 +87,18 @@ same-log x w other =
     })
 
 -- of these Flush does not change it
-pub flush-log : (n : ℕ) (w : World) → step (callFlush n) w .log ≡ w .log
+pub flush-log : (lent : Lent) (n : ℕ) (w : World) → step (call lent (flushCall n)) w .log ≡ w .log
 unfolding flush
-flush-log n w =
-    while-up-cases (λ (v : World). v .log ≡ w .log) w refl (λ s. coordinatorDoes (flush s n .action) s w)
-    (λ s u. unless-does (firstRefusal (flushTests s n)) Refused keep _ (λ (a : Action). logAfter a s (w .log) ≡ w .log) refl (λ e. refl))
+flush-log lent n w =
+    while-up-cases (λ (v : World). v .log ≡ w .log) w refl _
+    (λ s u. lent-cases (λ (v : World). v .log ≡ w .log) w refl lent (actionOf (flushCall n) s) s
+    (λ o. unless-does (firstRefusal (flushTests s n)) Refused keep _ (λ (a : Action). logAfter a s (w .log) ≡ w .log) refl (λ e. refl)) (λ m d. refl))
+
+-- so it does the same whatever slice it is lent
+pub flush-elsewhere : (n : ℕ) (s : Coordinator) (w : World) → coordinatorElsewhere (flush s n .action) s w ≡ coordinatorDoes (flush s n .action) s w
+unfolding flush
+flush-elsewhere n s w =
+    unless-does (firstRefusal (flushTests s n)) Refused keep _ (λ (a : Action). coordinatorElsewhere a s w ≡ coordinatorDoes a s w) refl (λ e. refl)
 
 -- the coordinator: changed by its calls, a cut and an opening only
 pub same-phase : (x : Item) (w : World) → (ofLog x || isCut x || isReopening x) ≡ false → step x w .phase ≡ w .phase
@@ -98,7 +107,7 @@ same-phase x w other =
     (record {
       rests = λ c new. refl;
       acts = λ l s u a d new. not-both (search (or-false-left, or-false-right)) l;
-      acts-elsewhere = λ l s u n o a d. not-both (search (or-false-left, or-false-right)) l;
+      acts-elsewhere = λ l s u n o a d new. not-both (search (or-false-left, or-false-right)) l;
       leads = λ y t a d c new. refl;
       leads-elsewhere = λ y t n o a d c. refl;
       cuts = λ i s u n e. not-both (search (or-false-left, or-false-right)) i;
@@ -117,7 +126,7 @@ step-lengths x w =
     (record {
       rests = λ c new. refl;
       acts = λ l s u a d new. refl;
-      acts-elsewhere = λ l s u n o a d. refl;
+      acts-elsewhere = λ l s u n o a d new. refl;
       leads = λ y t a d c new. map-set-same wordsLength (w .leaders) y _ (openLeader []) (fits-length (leaderAt w y .partition) (leaderAt w y .words) a (led-fits _ _ a d));
       leads-elsewhere = λ y t n o a d c. map-set-same wordsLength (w .leaders) y _ (openLeader []) refl;
       cuts = λ i s u n e. refl;
@@ -159,7 +168,7 @@ step-reserved x w r =
     (record {
       rests = λ c new. r;
       acts = λ l s u a d new. decided-reserved s (subst ReservedPhase u r) _ a d;
-      acts-elsewhere = λ l s u n o a d. decided-reserved s (subst ReservedPhase u r) n a d;
+      acts-elsewhere = λ l s u n o a d new. decided-reserved s (subst ReservedPhase u r) n a d;
       leads = λ y t a d c new. r;
       leads-elsewhere = λ y t n o a d c. r;
       cuts = λ i s u n e. tt;
@@ -176,7 +185,7 @@ step-log-length x w r =
     (record {
       rests = λ c new. refl;
       acts = λ l s u a d new. decided-length s (subst ReservedPhase u r) (w .log) a d;
-      acts-elsewhere = λ l s u n o a d. refl;
+      acts-elsewhere = λ l s u n o a d new. refl;
       leads = λ y t a d c new. refl;
       leads-elsewhere = λ y t n o a d c. refl;
       cuts = λ i s u n e. refl;
@@ -199,11 +208,11 @@ step-grown x w =
     (record {
       rests = λ c new. (new, refl);
       acts = λ l s u a d new. (new, refl);
-      acts-elsewhere = λ l s u n o a d. ([], refl);
+      acts-elsewhere = λ l s u n o a d new. (new, refl);
       leads = λ y t a d c new. (new, refl);
       leads-elsewhere = λ y t n o a d c. ([], refl);
       cuts = λ i s u n e. (logCut n ∷ [], refl);
-      reopens = λ i n before u epoch first last t e. (logOpened ∷ [], refl);
+      reopens = λ i n before u epoch first last t e. (logOpened epoch ∷ [], refl);
     })
 
 grown-further : (w v u : World) → Grown w v → Grown v u → Grown w u

@@ -6,3 +6,5 @@ pub mod Decisions
 pub mod Leaves
 pub mod LogBytes
 pub mod Admitted
+pub mod SameCalls
+pub mod Epochs

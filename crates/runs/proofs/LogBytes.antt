@@ -15,7 +15,7 @@ use Rattle.coordinator.specs.Coordinator.{logEnd, rowFrame, Action, keep, advan
 use Rattle.coordinator.specs.declared.Coordinator.{Coordinator}
 use Rattle.coordinator.proofs.Laws.{admits-room}
 use Rattle.writer.proofs.Decisions.{AppendsAdmitted, decided-admitted}
-use Rattle.runs.specs.World.{Phase, up, down, World, Item, call, callFlush, callOrder, callProduce, callRead, deliver, acknowledge, cut, reopen, step, run}
+use Rattle.runs.specs.World.{Phase, up, down, World, Item, call, callOrder, callProduce, callRead, deliver, acknowledge, cut, reopen, step, run}
 use Rattle.runs.specs.Demand3.{Undisturbed}
 use Rattle.runs.proofs.Run.{run-keeps-of}
 use Rattle.runs.proofs.Changes.{isCut, step-changes}
@@ -60,7 +60,7 @@ step-below x w =
     (record {
       rests = λ c new. refl;
       acts = λ l s u a d new. rw u (below-end s (w .log) a (decided-admitted s (length (w .log)) a d));
-      acts-elsewhere = λ l s u n o a d. refl;
+      acts-elsewhere = λ l s u n o a d new. refl;
       leads = λ y t a d c new. refl;
       leads-elsewhere = λ y t n o a d c. refl;
       cuts = λ i s u n e. refl;
@@ -77,7 +77,7 @@ step-up x w whole h =
     (record {
       rests = λ c new. (h, omega arith);
       acts = λ l s u a d new. (tt, rw u (end-rises s a));
-      acts-elsewhere = λ l s u n o a d. (tt, rw u (end-rises s a));
+      acts-elsewhere = λ l s u n o a d new. (tt, rw u (end-rises s a));
       leads = λ y t a d c new. (h, omega arith);
       leads-elsewhere = λ y t n o a d c. (h, omega arith);
       cuts = λ i s u n e. not-both whole i;
@@ -92,7 +92,6 @@ WithoutCut items = Each (λ (x : Item). isCut x ≡ false) items
 -- a list that demand 3 calls undisturbed has none
 undisturbed-item : (all : ℕ) (x : Item) → Undisturbed all x → isCut x ≡ false
 undisturbed-item all (call lent c) u = refl
-undisturbed-item all (callFlush n) u = refl
 undisturbed-item all (callOrder partitions) u = refl
 undisturbed-item all (callProduce lent other name pid epoch position sequence payload) u = refl
 undisturbed-item all (callRead lent x from out) u = refl

@@ -4,33 +4,28 @@ use Prim.Native.Nat.{ℕ, _+_, _*_, _≤_}
 use mathlib.Core.Path.{_≡_}
 use mathlib.Core.Bool.{true, false}
 use mathlib.Core.List.{List, [], _∷_}
-use mathlib.Core.Option.{none, some}
-use lib.IntN.{ℤ}
+use mathlib.Core.Option.{none}
+use lib.IntN.{ℤ, pos}
 use lib.ListN.{length, take}
+use lib.Signed.{leZ}
 use Rattle.bits.specs.Bits.{member, subset}
 use Rattle.catalogue.specs.declared.Catalogue.{Catalogue}
 use Rattle.record.specs.Frame.{frame}
 use Rattle.record.specs.Record.{statusCode}
 use Rattle.record.specs.declared.Status.{Status}
 use Rattle.record.specs.declared.Status.the-variants.{Begin}
-use Rattle.row.specs.Row.{isPrepare}
 use Rattle.search.specs.Search.{Each, EachAt, Found, IfFound}
 use Rattle.table.specs.Table.{placeOf}
-use Rattle.answers.specs.Answers.{openReply}
-use Rattle.answers.specs.declared.Answer.the-variants.{Done}
-use Rattle.answers.specs.declared.OrderAnswer.{OrderAnswer}
-use Rattle.answers.specs.declared.OrderAnswer.the-variants.{Order as Ordered, NoOrder}
+use Rattle.answers.specs.Answers.{reply, orderReply}
 use Rattle.coordinator.specs.Coordinator.{logEnd}
-use Rattle.coordinator.specs.Open.{opening}
 use Rattle.coordinator.specs.Order.{order}
-use Rattle.coordinator.specs.Ack.{ack}
+use Rattle.coordinator.specs.Calls.{ackCall, answered}
 use Rattle.partition.specs.Limits.{entryWords}
 use Rattle.partition.specs.Marker.{marker}
-use Rattle.partition.specs.Read.{standsUnder}
-use Rattle.writer.specs.LogCalls.{outOfOrder}
+use Rattle.writer.specs.Writer.{outOfOrder, openingReply}
 use Rattle.log_reader.specs.Records.{framesOf}
-use Rattle.runs.specs.History.{Order, Produced, History, ordersIn, producedIn, markersIn, collect, Logged, recordsOf, contents, endOf, flushedOf, isFlushed, recordNumbered, latestOf, nextOf, flushedPrepares, listed, isCompleted, completedPrepares, pendingPrepares, transaction, carriedFor, markersFor, wordsOf, WithBefore, collectWithBefore}
-use Rattle.runs.specs.World.{Leader, Phase, up, down, Carrying, nothing, toDeliver, toAcknowledge, World, catalogueOf, leaderAt, FirstOpening, start, Accepted, Lent, own, another, Item, call, callFlush, callOrder, callProduce, callRead, deliver, acknowledge, cut, reopen, run}
+use Rattle.runs.specs.History.{Order, Produced, History, ordersIn, givenIn, producedIn, markersIn, collect, Logged, logRecords, contents, endOf, flushedOf, epochOpened, isFlushed, recordNumbered, latestOf, nextOf, isPrepare, flushedPrepares, listed, isCompleted, completedPrepares, pendingPrepares, transaction, markerOver, carriedFor, markersFor, wordsOf, WithBefore, collectWithBefore}
+use Rattle.runs.specs.World.{Leader, Phase, up, down, Carrying, nothing, toDeliver, toAcknowledge, World, catalogueOf, leaderAt, FirstOpening, start, Accepted, Lent, own, another, Item, call, callOrder, callProduce, callRead, deliver, acknowledge, cut, reopen, run}
 
 -- ---- kept
 
@@ -40,10 +35,19 @@ pub record Completes (p : Logged) (c : Logged) : Type 0 where
   pub pid : c .content .pid ≡ p .content .pid
   pub epoch : c .content .epoch ≡ p .content .epoch
 
--- "Kept: a flushed prepare stays its name's latest record, unchanged, until 4 follows 2, or 5 follows 3, with its producer, and completes it"
+-- 00: "keeps its verdict, producer and partitions"; 01: "unchanged". Where it stands in the log is no part of it.
+pub record Keeps (p : Logged) (x : Logged) : Type 0 where
+  pub verdict : statusCode (x .content .status) ≡ statusCode (p .content .status)
+  pub pid : x .content .pid ≡ p .content .pid
+  pub epoch : x .content .epoch ≡ p .content .epoch
+  pub partitions : x .content .joined ≡ p .content .joined
+  pub unchanged : x .content ≡ p .content
+
+-- "Kept: a flushed prepare stays its name's latest record, unchanged, until 4 follows 2, or 5 follows 3, with its producer, and completes it", of the
+-- records that were appended and that no cut has undone
 -- Not met by a server that aborts a prepare because its timeout has passed before the restart, nor by one whose commits end in COMPLETE_ABORT.
 pub record Kept (w : World) (p : Logged) : Type 0 where
-  pub stands : recordNumbered (p .number) (w .history) ≡ some p
+  pub stands : Found (Keeps p) (recordNumbered (p .number) (w .history))
   pub next : IfFound (Completes p) (nextOf p (w .history))
 
 -- ---- the log and the words are the history's
@@ -54,14 +58,14 @@ Ends c [] = Unit {0}
 Ends c (x ∷ records) = (x .end ≡ endOf records + length (frame c (x .content))) × Ends c records
 
 abbrev pub SameLengths : Phase → History → Type 0
-SameLengths (up s) h = (logEnd s ≡ endOf (recordsOf h)) × (s .flushed ≡ flushedOf h) × (flushedOf h ≤ endOf (recordsOf h))
-SameLengths (down n epoch) h = (endOf (recordsOf h) ≤ n) × (n ≡ flushedOf h)
+SameLengths (up s) h = (logEnd s ≡ endOf (logRecords h)) × (s .flushed ≡ flushedOf h) × (flushedOf h ≤ endOf (logRecords h))
+SameLengths (down n epoch) h = (endOf (logRecords h) ≤ n) × (n ≡ flushedOf h)
 
 -- The records of the history are those in the log buffer, byte for byte, and the state's log end and flushed length are theirs.
 -- Not met by an opening that takes the bytes of a torn frame as flushed, nor by a Flush that takes a length past the end.
 pub record LogAgrees (w : World) : Type 0 where
-  pub bytes : take (endOf (recordsOf (w .history))) (w .log) ≡ framesOf (catalogueOf w) (contents (recordsOf (w .history)))
-  pub ends : Ends (catalogueOf w) (recordsOf (w .history))
+  pub bytes : take (endOf (logRecords (w .history))) (w .log) ≡ framesOf (catalogueOf w) (contents (logRecords (w .history)))
+  pub ends : Ends (catalogueOf w) (logRecords (w .history))
   pub lengths : SameLengths (w .phase) (w .history)
 
 -- what Produce writes is for a name whose latest record is then a flushed BEGIN of that producer with that partition joined
@@ -98,6 +102,11 @@ abbrev pub ForFlushedPrepare : World → Type 0
 ForFlushedPrepare w =
     Each (λ (p : WithBefore Order). Found (IsFor (p .what) (p .before)) (recordNumbered (p .what .for) (p .before))) (collectWithBefore ordersIn (w .history))
 
+-- "It carries … coordinator epoch": an order has that of the last accepted opening.
+-- Not met by a server whose orders always carry 1, nor by one that keeps the coordinator epoch from before a cut.
+abbrev pub OfLastOpening : World → Type 0
+OfLastOpening w = Each (λ (p : WithBefore Order). p .what .coordinator ≡ epochOpened (p .before)) (collectWithBefore givenIn (w .history))
+
 -- ---- one
 
 -- 00: "no partition holds two for one prepare"
@@ -108,28 +117,29 @@ OneMarker w = Each (λ (o : Order). markersFor o (w .history) ≡ 1) (collect ma
 -- ---- under its verdict
 
 -- 00: "every entry of a completed commit's transaction, on whichever partition, stands under COMMIT, every one of a completed abort's under ABORT"
--- 01: "each entry stands under its pid's next marker there", as Read finds it in the words; kind 1, COMMIT, is for status 2, and kind 2, ABORT, for 3
+-- 01: "each entry stands under its pid's next marker there"; verdict 0 is that of status 2, 1 that of 3. That Read finds the same in the words is in
+-- `InEveryRun`.
 -- Not met by a Marker that writes nothing, nor by a server that completes one acknowledgement early.
-abbrev pub StandsUnder : World → Status → Produced → Type 0
-StandsUnder w status e = let l = leaderAt w (e .position) in statusCode status ≡ standsUnder (l .words) (l .partition .end) (e .offset) + 1
+abbrev pub StandsUnder : History → Status → WithBefore Produced → Type 0
+StandsUnder h status e = Found (λ (m : Order). statusCode status ≡ m .verdict + 2) (markerOver h e)
 
 abbrev pub UnderItsVerdict : World → Type 0
 UnderItsVerdict w =
-    Each (λ (p : Logged). Each (StandsUnder w (p .content .status)) (transaction p (w .history))) (completedPrepares (w .history))
+    Each (λ (p : Logged). Each (StandsUnder (w .history) (p .content .status)) (transaction p (w .history))) (completedPrepares (w .history))
 
 -- ---- progress
 
--- an order of at most this place
-abbrev pub GivenUpTo : ℕ → OrderAnswer → Type 0
-GivenUpTo place (Ordered at pid epoch verdict position coordinator) = at ≤ place
-GivenUpTo place NoOrder = ⊥
+-- the results of an Order that answers an order of at most this place, which is the first of them
+abbrev pub GivenUpTo : ℕ → List ℤ → Type 0
+GivenUpTo place [] = ⊥
+GivenUpTo place (at ∷ results) = leZ at (pos place) ≡ true
 
 -- While a flushed prepare is not completed, an Order with all partitions up answers an order, of the prepare's place or a lower one.
 -- Not met by an Order that says none over a flushed prepare, nor by a server that takes a recovered prepare for acknowledged: nothing would be
 -- outstanding, and it would never complete.
 abbrev pub OrdersGiven : Phase → World → Type 0
 OrdersGiven (up s) w =
-    Each (λ (p : Logged). (set : ℕ) → subset (catalogueOf w .all) set ≡ true → GivenUpTo (placeOf (s .table) (p .content .name)) (order s set))
+    Each (λ (p : Logged). (set : ℕ) → subset (catalogueOf w .all) set ≡ true → GivenUpTo (placeOf (s .table) (p .content .name)) (orderReply (order s set) .results))
     (pendingPrepares (w .history))
 OrdersGiven (down n epoch) w = Unit {0}
 
@@ -138,10 +148,10 @@ OrdersGiven (down n epoch) w = Unit {0}
 abbrev pub MarkerDone : World → Order → Type 0
 MarkerDone w o =
     let l = leaderAt w (o .position) in
-    marker (l .partition) (length (l .words)) (o .place) (o .pid) (o .epoch) (o .verdict) (o .coordinator) .answer ≡ Done
+    reply (marker (l .partition) (length (l .words)) (o .place) (o .pid) (o .epoch) (o .verdict) (o .coordinator) .answer) .number ≡ 0
 
 abbrev pub AckDone : Phase → World → Order → Type 0
-AckDone (up s) w o = ack s (length (w .log)) (o .place) (o .pid) (o .epoch) (o .position) .answer ≡ Done
+AckDone (up s) w o = answered (ackCall (o .place) (o .pid) (o .epoch) (o .position)) (record { state = s; log = w .log }) .number ≡ 0
 AckDone (down n epoch) w o = ⊥
 
 abbrev pub CarryingAccepted : Carrying → World → Type 0
@@ -156,7 +166,6 @@ IsOwn (another slice) = ⊥
 -- "there is no cut, all are up in each Order, and in carrying no slice meets 8"
 abbrev pub Undisturbed : ℕ → Item → Type 0
 Undisturbed all (call lent c) = Unit {0}
-Undisturbed all (callFlush n) = Unit {0}
 Undisturbed all (callOrder set) = subset all set ≡ true
 Undisturbed all (callProduce lent other name pid epoch position sequence payload) = Unit {0}
 Undisturbed all (callRead lent x from out) = Unit {0}
@@ -182,7 +191,7 @@ abbrev pub Restarts : Phase → World → Type 0
 Restarts (up s) w = Unit {0}
 Restarts (down n before) w =
     (epoch first last : ℤ) → outOfOrder epoch first last ≡ false
-    → openReply (opening (w .text) (w .log) n epoch first last .answer) .number ≡ 0
+    → openingReply (w .text) (w .log) n epoch first last .number ≡ 0
 
 -- ---- the statement
 
@@ -191,6 +200,7 @@ pub record HoldsAt (w : World) : Type 0 where
   pub log-agrees : LogAgrees w
   pub words-agree : WordsAgree w
   pub for-flushed-prepare : ForFlushedPrepare w
+  pub of-last-opening : OfLastOpening w
   pub one-marker : OneMarker w
   pub under-its-verdict : UnderItsVerdict w
   pub orders-given : OrdersGiven (w .phase) w

@@ -1,18 +1,19 @@
 -- What happened in a run, and what document 01's section Runs says of it: records, flushed prepares, their transactions, orders and entries.
 -- The server does not keep it: `step` writes it beside the server, so that statements can speak of the past.
 use Prim.Native.Nat.{ℕ, suc, _+_, _-_, _*_, _^_}
-use mathlib.Core.Bool.{Bool, cond, not, _&&_}
+use mathlib.Core.Bool.{Bool, true, false, cond, not, _&&_}
 use mathlib.Core.List.{List, [], _∷_, _++_, map}
 use mathlib.Core.Option.{Option, none, some}
 use lib.Dec.{eqb, leb, ltb}
-use lib.IntN.{ℤ}
-use lib.ListN.{length, take, drop}
+use lib.IntN.{ℤ, pos}
+use lib.ListN.{length, take, drop, getD}
 use Rattle.numbers.specs.Border.{toNat}
 use Rattle.numbers.specs.Bytes.{same}
 use Rattle.bits.specs.Bits.{count}
 use Rattle.record.specs.Record.{statusCode}
 use Rattle.record.specs.declared.Record.{Record}
-use Rattle.row.specs.Row.{isPrepare}
+use Rattle.record.specs.declared.Status.{Status}
+use Rattle.record.specs.declared.Status.the-variants.{Empty, Begin, PrepareCommit, PrepareAbort, CompleteCommit, CompleteAbort}
 use Rattle.search.specs.Search.{find, findLast, found, filter, countWhere}
 
 -- an order with what it carries, and the number of the record that it is for: "An order is for its place's latest record then"
@@ -42,8 +43,8 @@ pub data Event : Type 0 where
   logFlushed : ℕ → Event
   -- a cut left this length of the log
   logCut : ℕ → Event
-  -- an opening was accepted
-  logOpened : Event
+  -- an opening with this coordinator epoch was accepted
+  logOpened : ℤ → Event
   -- Order answered this order
   orderGiven : Order → Event
   -- the order's Marker wrote an entry at its partition
@@ -53,7 +54,8 @@ pub data Event : Type 0 where
   -- Produce wrote an entry
   entryWritten : Produced → Event
 
--- the newest event comes first; the number of an event is how many came before it
+-- The newest event comes first. The number of an event is how many came before it, so the events before the one of a number are as many as that
+-- number says: they are the last of the list, and those from it on stand in front of them.
 abbrev pub History : Type 0
 History = List Event
 
@@ -67,49 +69,45 @@ eventsFrom number h = take (length h - number) h
 
 -- ---- what one event says
 
+-- the coordinator epoch of an accepted opening; the order that was given, by which a marker was written, or that was carried; the entry that Produce wrote
+pub record Said : Type 0 where
+  pub opened : List ℤ
+  pub given : List Order
+  pub marked : List Order
+  pub carried : List Order
+  pub produced : List Produced
+
+abbrev pub nothingSaid : Said
+nothingSaid = record { opened = []; given = []; marked = []; carried = []; produced = [] }
+
+abbrev pub said : Event → Said
+said (recordAppended r end) = nothingSaid
+said (logFlushed n) = nothingSaid
+said (logCut n) = nothingSaid
+said (logOpened epoch) = record { opened = epoch ∷ []; given = []; marked = []; carried = []; produced = [] }
+said (orderGiven o) = record { opened = []; given = o ∷ []; marked = []; carried = []; produced = [] }
+said (markerWritten o) = record { opened = []; given = []; marked = o ∷ []; carried = []; produced = [] }
+said (orderCarried o) = record { opened = []; given = []; marked = []; carried = o ∷ []; produced = [] }
+said (entryWritten e) = record { opened = []; given = []; marked = []; carried = []; produced = e ∷ [] }
+
+abbrev pub openedIn : Event → List ℤ
+openedIn e = said e .opened
+
+abbrev pub givenIn : Event → List Order
+givenIn e = said e .given
+
+abbrev pub markersIn : Event → List Order
+markersIn e = said e .marked
+
+abbrev pub carriedIn : Event → List Order
+carriedIn e = said e .carried
+
+abbrev pub producedIn : Event → List Produced
+producedIn e = said e .produced
+
 -- the order that was given, or by which a marker was written
 abbrev pub ordersIn : Event → List Order
-ordersIn (recordAppended r end) = []
-ordersIn (logFlushed n) = []
-ordersIn (logCut n) = []
-ordersIn logOpened = []
-ordersIn (orderGiven o) = o ∷ []
-ordersIn (markerWritten o) = o ∷ []
-ordersIn (orderCarried o) = []
-ordersIn (entryWritten e) = []
-
--- the order by which a marker was written
-abbrev pub markersIn : Event → List Order
-markersIn (recordAppended r end) = []
-markersIn (logFlushed n) = []
-markersIn (logCut n) = []
-markersIn logOpened = []
-markersIn (orderGiven o) = []
-markersIn (markerWritten o) = o ∷ []
-markersIn (orderCarried o) = []
-markersIn (entryWritten e) = []
-
--- the order that was carried
-abbrev pub carriedIn : Event → List Order
-carriedIn (recordAppended r end) = []
-carriedIn (logFlushed n) = []
-carriedIn (logCut n) = []
-carriedIn logOpened = []
-carriedIn (orderGiven o) = []
-carriedIn (markerWritten o) = []
-carriedIn (orderCarried o) = o ∷ []
-carriedIn (entryWritten e) = []
-
--- the entry that Produce wrote
-abbrev pub producedIn : Event → List Produced
-producedIn (recordAppended r end) = []
-producedIn (logFlushed n) = []
-producedIn (logCut n) = []
-producedIn logOpened = []
-producedIn (orderGiven o) = []
-producedIn (markerWritten o) = []
-producedIn (orderCarried o) = []
-producedIn (entryWritten e) = e ∷ []
+ordersIn e = said e .given ++ said e .marked
 
 -- the words of the entry that was written at a position: "pid; kind (0 data, 1 COMMIT, 2 ABORT); epoch×2^32 plus sequence (a marker has its order's epoch,
 -- and the coordinator epoch for sequence); payload (0 for markers)", of what Produce was called with or of the order
@@ -117,7 +115,7 @@ abbrev pub wordsIn : ℕ → Event → List ℕ
 wordsIn position (recordAppended r end) = []
 wordsIn position (logFlushed n) = []
 wordsIn position (logCut n) = []
-wordsIn position logOpened = []
+wordsIn position (logOpened epoch) = []
 wordsIn position (orderGiven o) = []
 wordsIn position (markerWritten o) =
     cond (eqb (o .position) position) (toNat (o .pid) ∷ (o .verdict + 1) ∷ (toNat (o .epoch) * 2 ^ 32 + toNat (o .coordinator)) ∷ 0 ∷ []) []
@@ -134,6 +132,10 @@ collect f (x ∷ h) = f x ++ collect f h
 pub record WithBefore (A : Type 0) : Type 0 where
   pub what : A
   pub before : History
+
+-- the number of that event
+abbrev pub numberOf : {A : Type 0} → WithBefore A → ℕ
+numberOf x = length (x .before)
 
 -- the same for all events
 unfoldable pub collectWithBefore : {A : Type 0} → (Event → List A) → History → List (WithBefore A)
@@ -159,11 +161,15 @@ recordsOf [] = []
 recordsOf (recordAppended r end ∷ h) = record { number = length h; content = r; end = end } ∷ recordsOf h
 recordsOf (logFlushed n ∷ h) = recordsOf h
 recordsOf (logCut n ∷ h) = endingBy n (recordsOf h)
-recordsOf (logOpened ∷ h) = recordsOf h
+recordsOf (logOpened epoch ∷ h) = recordsOf h
 recordsOf (orderGiven o ∷ h) = recordsOf h
 recordsOf (markerWritten o ∷ h) = recordsOf h
 recordsOf (orderCarried o ∷ h) = recordsOf h
 recordsOf (entryWritten e ∷ h) = recordsOf h
+
+-- The records that stand in the log, each where its end says. Every record that was appended and that no cut has undone stands there.
+abbrev pub logRecords : History → List Logged
+logRecords h = recordsOf h
 
 abbrev pub contents : List Logged → List Record
 contents records = map (λ (x : Logged). x .content) records
@@ -179,11 +185,15 @@ flushedOf [] = 0
 flushedOf (recordAppended r end ∷ h) = flushedOf h
 flushedOf (logFlushed n ∷ h) = n
 flushedOf (logCut n ∷ h) = n
-flushedOf (logOpened ∷ h) = endOf (recordsOf h)
+flushedOf (logOpened epoch ∷ h) = endOf (logRecords h)
 flushedOf (orderGiven o ∷ h) = flushedOf h
 flushedOf (markerWritten o ∷ h) = flushedOf h
 flushedOf (orderCarried o ∷ h) = flushedOf h
 flushedOf (entryWritten e ∷ h) = flushedOf h
+
+-- the coordinator epoch of the last accepted opening
+abbrev pub epochOpened : History → ℤ
+epochOpened h = getD (collect openedIn h) 0 (pos 0)
 
 -- "flushed once the flushed length reaches its end"
 abbrev pub isFlushed : History → Logged → Bool
@@ -207,7 +217,16 @@ nextOf p h = findLast (λ (x : Logged). ltb (p .number) (x .number) && isOf (p .
 
 -- ---- prepares
 
--- "Prepare: a record of status 2 or 3, flushed once the flushed length reaches its end"
+-- "Prepare: a record of status 2 or 3": PREPARE_COMMIT or PREPARE_ABORT
+abbrev pub isPrepare : Status → Bool
+isPrepare Empty = false
+isPrepare Begin = false
+isPrepare PrepareCommit = true
+isPrepare PrepareAbort = true
+isPrepare CompleteCommit = false
+isPrepare CompleteAbort = false
+
+-- "flushed once the flushed length reaches its end"
 abbrev pub isFlushedPrepare : History → Logged → Bool
 isFlushedPrepare h x = isPrepare (x .content .status) && isFlushed h x
 
@@ -241,11 +260,18 @@ numberAfter none = 0
 numberAfter (some x) = suc (x .number)
 
 -- "A prepare's transaction: what Produce wrote for its name since the flushed prepare before, up to it"
-abbrev pub transaction : Logged → History → List Produced
+abbrev pub transaction : Logged → History → List (WithBefore Produced)
 transaction p h =
     let name = p .content .name in
-    let before = eventsBefore (p .number) h in
-    filter (λ (e : Produced). same (e .name) name) (collect producedIn (eventsFrom (numberAfter (preparedBefore name before)) before))
+    let since = numberAfter (preparedBefore name (eventsBefore (p .number) h)) in
+    filter (λ (e : WithBefore Produced). same (e .what .name) name && leb since (numberOf e) && ltb (numberOf e) (p .number)) (collectWithBefore producedIn h)
+
+-- "each entry stands under its pid's next marker there": of the markers that were written after the entry at its partition and with its pid, which are
+-- compared as the entries' words have them, the first
+abbrev pub markerOver : History → WithBefore Produced → Option Order
+markerOver h e =
+    findLast (λ (m : Order). eqb (m .position) (e .what .position) && eqb (toNat (m .pid)) (toNat (e .what .pid)))
+    (collect markersIn (eventsFrom (suc (numberOf e)) h))
 
 -- how many orders for a record were carried
 abbrev pub carriedFor : Logged → History → ℕ

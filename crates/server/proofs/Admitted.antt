@@ -22,6 +22,7 @@ use Rattle.answers.specs.declared.ProduceAnswer.the-variants.{Refused as Produc
 use Rattle.answers.proofs.Laws.{first-passes, first-other, unless-number, unless-does}
 use Rattle.coordinator.specs.Coordinator.{admits, Action, keep, after}
 use Rattle.coordinator.specs.Open.{opening}
+use Rattle.coordinator.specs.Calls.{initCall, addCall, endCall, tickCall, flushCall, ackCall}
 use Rattle.coordinator.specs.declared.Coordinator.{Coordinator}
 use Rattle.coordinator.specs.Init.{initRowTests, initTests, init}
 use Rattle.coordinator.specs.Add.{addRowTests, addTests, add}
@@ -36,11 +37,11 @@ use Rattle.partition.specs.Marker.{markerTests, marker}
 use Rattle.partition.specs.Read.{readTests}
 use Rattle.partition.specs.declared.Partition.{Partition}
 use Rattle.partition.proofs.Reserve.{Reserved as PartitionReserved, Keeps, admits-length as words-admits, opened-reserved, opened-room, keep-keeps, data-keeps, marker-keeps}
-use Rattle.server.specs.Calls.{Server, Call, openLog, openWords, initCall, addCall, endCall, tickCall, flushCall, orderCall, ackCall, produceCall, markerCall, readCall, answerOf, afterCall, coordinatorDoes, partitionDoes, withCoordinator}
+use Rattle.server.specs.Calls.{Server, Call, openLog, openWords, call, orderCall, produceCall, markerCall, readCall, answerOf, afterCall, coordinatorDoes, partitionDoes, withCoordinator}
 use Rattle.server.specs.Produce.{produceRowTests, produceTests, produce}
 use Rattle.server.specs.Lines.{afterAll}
 use Rattle.server.specs.Demand1.{refusalsOf}
-use Rattle.server.specs.Admitted.{openedWith, Next, call, lend, afterEach, Admits, Admitted}
+use Rattle.server.specs.Admitted.{openedWith, Next, makes, lend, afterEach, Admits, Admitted}
 use Rattle.server.proofs.Demand1.{init-done, tick-done, read-number, demand-1}
 use Rattle.server.proofs.ProduceCases.{produce-passed}
 
@@ -101,17 +102,17 @@ call-keeps openWords s r =
       reserves = record { of-log = r .of-log; of-words = opened-reserved (length (s .words)) };
       own = λ o. record { of-log = o .of-log; of-words = opened-room (length (s .words)) };
     }
-call-keeps (initCall name timeout time) s r =
+call-keeps (call (initCall name timeout time)) s r =
     coordinator-keeps (init (s .coordinator) (length (s .log)) name timeout time .action) s r (init-reserved (s .coordinator) (r .of-log) (length (s .log)) name timeout time)
-call-keeps (addCall name pid epoch set time) s r =
+call-keeps (call (addCall name pid epoch set time)) s r =
     coordinator-keeps (add (s .coordinator) (length (s .log)) name pid epoch set time .action) s r (add-reserved (s .coordinator) (r .of-log) (length (s .log)) name pid epoch set time)
-call-keeps (endCall name pid epoch verdict time) s r =
+call-keeps (call (endCall name pid epoch verdict time)) s r =
     coordinator-keeps (end (s .coordinator) (length (s .log)) name pid epoch verdict time .action) s r (end-reserved (s .coordinator) (r .of-log) (length (s .log)) name pid epoch verdict time)
-call-keeps (tickCall time) s r =
+call-keeps (call (tickCall time)) s r =
     coordinator-keeps (tick (s .coordinator) (length (s .log)) time .action) s r (tick-reserved (s .coordinator) (r .of-log) (length (s .log)) time)
-call-keeps (flushCall n) s r = coordinator-keeps (flush (s .coordinator) n .action) s r (flush-reserved (s .coordinator) (r .of-log) n)
+call-keeps (call (flushCall n)) s r = coordinator-keeps (flush (s .coordinator) n .action) s r (flush-reserved (s .coordinator) (r .of-log) n)
 call-keeps (orderCall up) s r = same-server s r
-call-keeps (ackCall place pid epoch position) s r =
+call-keeps (call (ackCall place pid epoch position)) s r =
     coordinator-keeps (ack (s .coordinator) (length (s .log)) place pid epoch position .action) s r (ack-reserved (s .coordinator) (r .of-log) (length (s .log)) place pid epoch position)
 call-keeps (produceCall name pid epoch position sequence payload) s r =
     partition-keeps (produce (s .coordinator) (s .partition) (length (s .words)) name pid epoch position sequence payload .action) s r
@@ -138,7 +139,7 @@ module _ (text log : List ℕ) (n : ℕ) (epoch first last : ℤ) (words out : L
 each-reserves : (xs : List Next) (s : Server) → Reserves s → Reserves (afterEach xs s)
 unfolding afterEach
 each-reserves [] s r = r
-each-reserves (call c ∷ xs) s r = each-reserves xs (afterCall c s) (call-keeps c s r .reserves)
+each-reserves (makes c ∷ xs) s r = each-reserves xs (afterCall c s) (call-keeps c s r .reserves)
 each-reserves (lend log words out ∷ xs) s r = each-reserves xs _ (record { of-log = r .of-log; of-words = r .of-words })
 
 reserves-admit : (s : Server) → Reserves s → Admits s
@@ -184,17 +185,17 @@ never-8 : (c : Call) (s : Server) → Reserves s → Own s → answerOf c s .num
 unfolding among numbersOf init initTests initRowTests add addTests addRowTests end endTests endRowTests tick tickTests ack ackTests ackRowTests produce produceTests produceRowTests marker markerTests readTests
 never-8 (openLog text n epoch first last) s r o e = without (openLog text n epoch first last) s refl e
 never-8 openWords s r o e = without openWords s refl e
-never-8 (initCall name timeout time) s r o e =
+never-8 (call (initCall name timeout time)) s r o e =
     decided (λ (a : InitAnswer). initReply a .number) InitRefused keep (initTests (s .coordinator) (length (s .log)) name timeout time) _ (init-done (s .coordinator) name timeout time) (λ k. refl) (log-admitted s r o, refl) e
-never-8 (addCall name pid epoch set time) s r o e =
+never-8 (call (addCall name pid epoch set time)) s r o e =
     decided (λ (a : Answer). reply a .number) Refused keep (addTests (s .coordinator) (length (s .log)) name pid epoch set time) _ refl (λ k. refl) (log-admitted s r o, refl) e
-never-8 (endCall name pid epoch verdict time) s r o e =
+never-8 (call (endCall name pid epoch verdict time)) s r o e =
     decided (λ (a : Answer). reply a .number) Refused keep (endTests (s .coordinator) (length (s .log)) name pid epoch verdict) _ refl (λ k. refl) (log-admitted s r o, refl) e
-never-8 (tickCall time) s r o e =
+never-8 (call (tickCall time)) s r o e =
     decided (λ (a : TickAnswer). tickReply a .number) TickRefused keep (tickTests (s .coordinator) (length (s .log))) _ (tick-done (s .coordinator) time) (λ k. refl) (log-admitted s r o, refl) e
-never-8 (flushCall n) s r o e = without (flushCall n) s refl e
+never-8 (call (flushCall n)) s r o e = without (call (flushCall n)) s refl e
 never-8 (orderCall up) s r o e = without (orderCall up) s refl e
-never-8 (ackCall place pid epoch position) s r o e =
+never-8 (call (ackCall place pid epoch position)) s r o e =
     decided (λ (a : Answer). reply a .number) Refused keep (ackTests (s .coordinator) (length (s .log)) place pid epoch position) _ refl (λ k. refl) (log-admitted s r o, refl) e
 never-8 (produceCall name pid epoch position sequence payload) s r o e =
     decided (λ (a : ProduceAnswer). produceReply a .number) ProduceRefused partitionKeep (produceTests (s .coordinator) (s .partition) (length (s .words)) name pid epoch position sequence) _ refl (λ k. refl) (words-admitted s r o, refl) e

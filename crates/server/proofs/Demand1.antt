@@ -26,6 +26,7 @@ use Rattle.answers.proofs.Laws.{first-among, unless-keeps, unless-number}
 use Rattle.coordinator.specs.Coordinator.{rowOf, clockAt, Action, keep}
 use Rattle.log_reader.specs.Read.{readTests}
 use Rattle.coordinator.specs.Open.{takeOverTests, openTests}
+use Rattle.coordinator.specs.Calls.{initCall, addCall, endCall, tickCall, flushCall, ackCall}
 use Rattle.coordinator.specs.declared.Coordinator.{Coordinator}
 use Rattle.partition.specs.declared.Partition.{Partition}
 use Rattle.coordinator.specs.Init.{initRowTests, initTests, initAccepted, init}
@@ -40,7 +41,7 @@ use Rattle.partition.specs.Partition.{Action as PartitionAction, keep as partit
 use Rattle.partition.specs.Marker.{markerTests, marker}
 use Rattle.partition.specs.Read.{readTests as readOffsetTests, readAnswer, readOut}
 use Rattle.server.specs.Produce.{produceRowTests, produceTests, produce}
-use Rattle.server.specs.Calls.{Server, Call, openLog, openWords, initCall, addCall, endCall, tickCall, flushCall, orderCall, ackCall, produceCall, markerCall, readCall, answerOf, afterCall, coordinatorDoes, partitionDoes, withOut}
+use Rattle.server.specs.Calls.{Server, Call, openLog, openWords, call, orderCall, produceCall, markerCall, readCall, answerOf, afterCall, coordinatorDoes, partitionDoes, withOut}
 use Rattle.server.specs.Demand1.{refusalsOf, Demand1}
 
 -- ---- a call that is decided by its tests
@@ -87,22 +88,22 @@ read-keeps p words from out h =
 numbered-as : (k : ℕ) (tests : List Test) → k ≡ firstRefusal tests → among k (0 ∷ numbersOf tests) ≡ true
 numbered-as k tests e = subst (λ (n : ℕ). among n (0 ∷ numbersOf tests) ≡ true) (sym e) (first-among tests)
 
-numbered : (call : Call) (s : Server) → among (answerOf call s .number) (0 ∷ refusalsOf call) ≡ true
+numbered : (c : Call) (s : Server) → among (answerOf c s .number) (0 ∷ refusalsOf c) ≡ true
 unfolding numbersOf init initTests initRowTests add addTests addRowTests end endTests endRowTests tick tickTests flush flushTests ack ackTests ackRowTests produce produceTests produceRowTests marker markerTests openTests readTests takeOverTests readOffsetTests
 numbered (openLog text n epoch first last) s =
     numbered-as _ (openTests text (s .log) n epoch first last) (open-number text (s .log) n epoch first last)
 numbered openWords s = unfold among in refl
-numbered (initCall name timeout time) s =
+numbered (call (initCall name timeout time)) s =
     numbered-by (λ (a : InitAnswer). initReply a .number) InitRefused keep (initTests (s .coordinator) (length (s .log)) name timeout time) _ (init-done (s .coordinator) name timeout time) refl
-numbered (addCall name pid epoch set time) s =
+numbered (call (addCall name pid epoch set time)) s =
     numbered-by (λ (a : Answer). reply a .number) Refused keep (addTests (s .coordinator) (length (s .log)) name pid epoch set time) _ refl refl
-numbered (endCall name pid epoch verdict time) s =
+numbered (call (endCall name pid epoch verdict time)) s =
     numbered-by (λ (a : Answer). reply a .number) Refused keep (endTests (s .coordinator) (length (s .log)) name pid epoch verdict) _ refl refl
-numbered (tickCall time) s =
+numbered (call (tickCall time)) s =
     numbered-by (λ (a : TickAnswer). tickReply a .number) TickRefused keep (tickTests (s .coordinator) (length (s .log))) _ (tick-done (s .coordinator) time) refl
-numbered (flushCall n) s = numbered-by (λ (a : Answer). reply a .number) Refused keep (flushTests (s .coordinator) n) _ refl refl
+numbered (call (flushCall n)) s = numbered-by (λ (a : Answer). reply a .number) Refused keep (flushTests (s .coordinator) n) _ refl refl
 numbered (orderCall up) s = numbered-as _ [] (unfold firstRefusal in order-done (s .coordinator) up)
-numbered (ackCall place pid epoch position) s =
+numbered (call (ackCall place pid epoch position)) s =
     numbered-by (λ (a : Answer). reply a .number) Refused keep (ackTests (s .coordinator) (length (s .log)) place pid epoch position) _ refl refl
 numbered (produceCall name pid epoch position sequence payload) s =
     numbered-by (λ (a : ProduceAnswer). produceReply a .number) ProduceRefused partitionKeep
@@ -118,22 +119,22 @@ still a s e = ap (λ (x : Action). coordinatorDoes x s) e
 still-at : (a : PartitionAction) (s : Server) → a ≡ partitionKeep → partitionDoes a s ≡ s
 still-at a s e = ap (λ (x : PartitionAction). partitionDoes x s) e
 
-unchanged : (call : Call) (s : Server) → (answerOf call s .number ≡ 0 → ⊥) → afterCall call s ≡ s
+unchanged : (c : Call) (s : Server) → (answerOf c s .number ≡ 0 → ⊥) → afterCall c s ≡ s
 unfolding init add end tick flush ack produce marker
 unchanged (openLog text n epoch first last) s h =
     by-cases (λ (x : Server). x ≡ s) (eqb (answerOf (openLog text n epoch first last) s .number) 0) (λ t. absurd (h (eqb-true _ 0 t))) (λ t. refl)
 unchanged openWords s h = absurd (h refl)
-unchanged (initCall name timeout time) s h =
+unchanged (call (initCall name timeout time)) s h =
     still _ s (kept-by (λ (a : InitAnswer). initReply a .number) InitRefused keep (initTests (s .coordinator) (length (s .log)) name timeout time) _ (init-done (s .coordinator) name timeout time) refl h)
-unchanged (addCall name pid epoch set time) s h =
+unchanged (call (addCall name pid epoch set time)) s h =
     still _ s (kept-by (λ (a : Answer). reply a .number) Refused keep (addTests (s .coordinator) (length (s .log)) name pid epoch set time) _ refl refl h)
-unchanged (endCall name pid epoch verdict time) s h =
+unchanged (call (endCall name pid epoch verdict time)) s h =
     still _ s (kept-by (λ (a : Answer). reply a .number) Refused keep (endTests (s .coordinator) (length (s .log)) name pid epoch verdict) _ refl refl h)
-unchanged (tickCall time) s h =
+unchanged (call (tickCall time)) s h =
     still _ s (kept-by (λ (a : TickAnswer). tickReply a .number) TickRefused keep (tickTests (s .coordinator) (length (s .log))) _ (tick-done (s .coordinator) time) refl h)
-unchanged (flushCall n) s h = still _ s (kept-by (λ (a : Answer). reply a .number) Refused keep (flushTests (s .coordinator) n) _ refl refl h)
+unchanged (call (flushCall n)) s h = still _ s (kept-by (λ (a : Answer). reply a .number) Refused keep (flushTests (s .coordinator) n) _ refl refl h)
 unchanged (orderCall up) s h = refl
-unchanged (ackCall place pid epoch position) s h =
+unchanged (call (ackCall place pid epoch position)) s h =
     still _ s (kept-by (λ (a : Answer). reply a .number) Refused keep (ackTests (s .coordinator) (length (s .log)) place pid epoch position) _ refl refl h)
 unchanged (produceCall name pid epoch position sequence payload) s h =
     still-at _ s (kept-by (λ (a : ProduceAnswer). produceReply a .number) ProduceRefused partitionKeep (produceTests (s .coordinator) (s .partition) (length (s .words)) name pid epoch position sequence) _ refl refl h)

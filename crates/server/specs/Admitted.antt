@@ -19,12 +19,12 @@ openedWith text log n epoch first last words out =
 
 -- what comes next: a call, or other buffers that are lent to the calls from then on
 pub data Next : Type 0 where
-  call : Call → Next
+  makes : Call → Next
   -- log buffer, partition words, slice to read into
   lend : List ℕ → List ℕ → List ℕ → Next
 
 abbrev pub afterNext : Next → Server → Server
-afterNext (call c) s = afterCall c s
+afterNext (makes c) s = afterCall c s
 afterNext (lend log words out) s = record { coordinator = s .coordinator; log = log; partition = s .partition; words = words; out = out }
 
 unfoldable pub afterEach : List Next → Server → Server

@@ -5,16 +5,11 @@ use mathlib.Core.List.{List, []}
 use lib.Dec.{eqb}
 use lib.IntN.{ℤ}
 use lib.ListN.{length}
-use Rattle.answers.specs.Answers.{Reply, accepted, reply, openReply, initReply, tickReply, orderReply, produceReply, readReply}
-use Rattle.coordinator.specs.Coordinator.{after, logAfter, Action}
+use Rattle.answers.specs.Answers.{Reply, accepted, reply, openReply, orderReply, produceReply, readReply}
+use Rattle.coordinator.specs.Coordinator.{Action}
 use Rattle.coordinator.specs.Open.{opening}
-use Rattle.coordinator.specs.Init.{init}
-use Rattle.coordinator.specs.Add.{add}
-use Rattle.coordinator.specs.End.{end}
-use Rattle.coordinator.specs.Tick.{tick}
-use Rattle.coordinator.specs.Flush.{flush}
 use Rattle.coordinator.specs.Order.{order}
-use Rattle.coordinator.specs.Ack.{ack}
+use Rattle.coordinator.specs.Calls.{CoordinatorCall, Writer, acts, answered, perform}
 use Rattle.coordinator.specs.declared.Coordinator.{Coordinator}
 use Rattle.partition.specs.Partition.{openPartition, after as partitionAfter, wordsAfter, Action as PartitionAction}
 use Rattle.partition.specs.Marker.{marker}
@@ -36,20 +31,10 @@ pub data Call : Type 0 where
   openLog : List ℕ → ℕ → ℤ → ℤ → ℤ → Call
   -- a partition is opened with the words lent
   openWords : Call
-  -- name, timeout, time
-  initCall : List ℕ → ℤ → ℤ → Call
-  -- name, pid, epoch, set, time
-  addCall : List ℕ → ℤ → ℤ → ℕ → ℤ → Call
-  -- name, pid, epoch, verdict, time
-  endCall : List ℕ → ℤ → ℤ → ℕ → ℤ → Call
-  -- time
-  tickCall : ℤ → Call
-  -- length
-  flushCall : ℕ → Call
+  -- Init, Add, End, Tick, Flush, Ack
+  call : CoordinatorCall → Call
   -- set of partitions that are up
   orderCall : ℕ → Call
-  -- place, pid, epoch, position
-  ackCall : ℕ → ℤ → ℤ → ℕ → Call
   -- name, pid, epoch, position, sequence, payload
   produceCall : List ℕ → ℤ → ℤ → ℕ → ℤ → ℕ → Call
   -- place, pid, epoch, verdict, coordinator epoch
@@ -57,33 +42,28 @@ pub data Call : Type 0 where
   -- offset
   readCall : ℕ → Call
 
+-- the coordinator with its log buffer
+abbrev pub writerOf : Server → Writer
+writerOf s = record { state = s .coordinator; log = s .log }
+
 -- what a call answers
 abbrev pub answerOf : Call → Server → Reply
 answerOf (openLog text n epoch first last) s = openReply (opening text (s .log) n epoch first last .answer)
 answerOf openWords s = accepted []
-answerOf (initCall name timeout time) s = initReply (init (s .coordinator) (length (s .log)) name timeout time .answer)
-answerOf (addCall name pid epoch set time) s = reply (add (s .coordinator) (length (s .log)) name pid epoch set time .answer)
-answerOf (endCall name pid epoch verdict time) s = reply (end (s .coordinator) (length (s .log)) name pid epoch verdict time .answer)
-answerOf (tickCall time) s = tickReply (tick (s .coordinator) (length (s .log)) time .answer)
-answerOf (flushCall n) s = reply (flush (s .coordinator) n .answer)
+answerOf (call c) s = answered c (writerOf s)
 answerOf (orderCall up) s = orderReply (order (s .coordinator) up)
-answerOf (ackCall place pid epoch position) s = reply (ack (s .coordinator) (length (s .log)) place pid epoch position .answer)
 answerOf (produceCall name pid epoch position sequence payload) s =
     produceReply (produce (s .coordinator) (s .partition) (length (s .words)) name pid epoch position sequence payload .answer)
 answerOf (markerCall place pid epoch verdict coordinator) s =
     reply (marker (s .partition) (length (s .words)) place pid epoch verdict coordinator .answer)
 answerOf (readCall from) s = readReply (readAnswer (s .partition) (s .words) from (s .out))
 
+abbrev pub withWriter : Server → Writer → Server
+withWriter s x = record { coordinator = x .state; log = x .log; partition = s .partition; words = s .words; out = s .out }
+
 -- a call of the coordinator does this
 abbrev pub coordinatorDoes : Action → Server → Server
-coordinatorDoes a s =
-    record {
-      coordinator = after a (s .coordinator);
-      log = logAfter a (s .coordinator) (s .log);
-      partition = s .partition;
-      words = s .words;
-      out = s .out;
-    }
+coordinatorDoes a s = withWriter s (acts a (writerOf s))
 
 -- a call of the partition does this
 abbrev pub partitionDoes : PartitionAction → Server → Server
@@ -110,13 +90,8 @@ abbrev pub afterCall : Call → Server → Server
 afterCall (openLog text n epoch first last) s =
     cond (eqb (answerOf (openLog text n epoch first last) s .number) 0) (withCoordinator s (opening text (s .log) n epoch first last .state)) s
 afterCall openWords s = withPartition s (openPartition (length (s .words)))
-afterCall (initCall name timeout time) s = coordinatorDoes (init (s .coordinator) (length (s .log)) name timeout time .action) s
-afterCall (addCall name pid epoch set time) s = coordinatorDoes (add (s .coordinator) (length (s .log)) name pid epoch set time .action) s
-afterCall (endCall name pid epoch verdict time) s = coordinatorDoes (end (s .coordinator) (length (s .log)) name pid epoch verdict time .action) s
-afterCall (tickCall time) s = coordinatorDoes (tick (s .coordinator) (length (s .log)) time .action) s
-afterCall (flushCall n) s = coordinatorDoes (flush (s .coordinator) n .action) s
+afterCall (call c) s = withWriter s (perform c (writerOf s))
 afterCall (orderCall up) s = s
-afterCall (ackCall place pid epoch position) s = coordinatorDoes (ack (s .coordinator) (length (s .log)) place pid epoch position .action) s
 afterCall (produceCall name pid epoch position sequence payload) s =
     partitionDoes (produce (s .coordinator) (s .partition) (length (s .words)) name pid epoch position sequence payload .action) s
 afterCall (markerCall place pid epoch verdict coordinator) s =

@@ -14,7 +14,8 @@ use Rattle.coordinator.specs.Open.{blankState, takenOver}
 use Rattle.partition.specs.Limits.{entryWords}
 use Rattle.partition.specs.Partition.{openPartition}
 use Rattle.partition.specs.declared.Partition.{Partition}
-use Rattle.server.specs.Calls.{Server, Call, openLog, openWords, initCall, addCall, tickCall, flushCall, produceCall, answerOf, afterCall, withOut}
+use Rattle.coordinator.specs.Calls.{initCall, addCall, tickCall, flushCall}
+use Rattle.server.specs.Calls.{Server, Call, openLog, openWords, call, produceCall, answerOf, afterCall, withOut}
 
 -- "catalogue scan 2, cert 1", as text
 abbrev pub catalogueText : List ℕ
@@ -43,9 +44,9 @@ abbrev pub wordsBetween : Partition → Partition → List ℕ → List ℕ
 wordsBetween p q words = take (entryWords * (q .end - p .end)) (drop (entryWords * p .end) words)
 
 abbrev pub seen : Call → Server → Outcome
-seen call s =
-    let answer = answerOf call s in
-    let after = afterCall call s in
+seen c s =
+    let answer = answerOf c s in
+    let after = afterCall c s in
     record {
       number = answer .number;
       results = answer .results;
@@ -58,7 +59,7 @@ seen call s =
 -- the state after a list of calls
 unfoldable pub afterAll : List Call → Server → Server
 afterAll [] s = s
-afterAll (call ∷ calls) s = afterAll calls (afterCall call s)
+afterAll (c ∷ calls) s = afterAll calls (afterCall c s)
 
 pub record Line : Type 0 where
   pub start : Server
@@ -75,15 +76,15 @@ opened = openLog catalogueText 0 (pos 1) (pos 1000) (pos 1999)
 
 -- Init of `rig7` at 100 with this timeout
 abbrev pub init7 : ℤ → Call
-init7 timeout = initCall rig7 timeout (pos 100)
+init7 timeout = call (initCall rig7 timeout (pos 100))
 
 -- partition 0 of `scan` joins at 100
 abbrev pub join : Call
-join = addCall rig7 (pos 1000) (pos 0) 1 (pos 100)
+join = call (addCall rig7 (pos 1000) (pos 0) 1 (pos 100))
 
 -- the calls that bring `rig7` into a flushed BEGIN with this timeout
 abbrev pub begins : ℤ → List Call
-begins timeout = opened ∷ openWords ∷ init7 timeout ∷ flushCall 53 ∷ join ∷ flushCall 120 ∷ []
+begins timeout = opened ∷ openWords ∷ init7 timeout ∷ call (flushCall 53) ∷ join ∷ call (flushCall 120) ∷ []
 
 abbrev pub put : Call
 put = produceCall rig7 (pos 1000) (pos 0) 0 (pos 0) 502
@@ -116,11 +117,11 @@ heldSpent =
 
 -- a line from a server: the last call writes no entry and reads nothing
 abbrev pub lineFrom : Server → List Call → Call → ℕ → List ℤ → ℕ → ℕ → Line
-lineFrom start calls call number results ids appended =
+lineFrom start calls last number results ids appended =
     record {
       start = start;
       calls = calls;
-      last = call;
+      last = last;
       expected = record { number = number; results = results; ids = ids; appended = appended; written = []; out = start .out };
     }
 
@@ -171,7 +172,7 @@ lines =
     -- "T2 name `rig7`, EMPTY: 53 bytes."
     line 2048 0 (opened ∷ []) (init7 (pos 60000)) 0 (pos 1000 ∷ pos 0 ∷ []) 1 53 ∷
     -- "T3 with `scan` 0 joined: 67."
-    line 2048 0 (opened ∷ init7 (pos 60000) ∷ flushCall 53 ∷ []) join 0 [] 1 67 ∷
+    line 2048 0 (opened ∷ init7 (pos 60000) ∷ call (flushCall 53) ∷ []) join 0 [] 1 67 ∷
     -- "T4 log buffer 1,079: first Init of `rig7` accepted"
     line 1079 0 (opened ∷ []) (init7 (pos 60000)) 0 (pos 1000 ∷ pos 0 ∷ []) 1 53 ∷
     -- "T5 1,078: 17."
@@ -185,9 +186,9 @@ lines =
     -- "T9 room 1: 22."
     line 2048 4 (begins (pos 60000)) put 22 [] 1 0 ∷
     -- "T10 BEGIN at 100, timeout 50: Tick 150 none"
-    line 2048 0 (begins (pos 50)) (tickCall (pos 150)) 0 [] 1 0 ∷
+    line 2048 0 (begins (pos 50)) (call (tickCall (pos 150))) 0 [] 1 0 ∷
     -- "T11 Tick 151 aborts."
-    line 2048 0 (begins (pos 50)) (tickCall (pos 151)) 0 (pos 0 ∷ []) 1 67 ∷
+    line 2048 0 (begins (pos 50)) (call (tickCall (pos 151))) 0 (pos 0 ∷ []) 1 67 ∷
     -- "T12 held epoch 32766, Init: new pid, epoch 0."
     lineFrom heldSpent [] (init7 (pos 60000)) 0 (pos 1001 ∷ pos 0 ∷ []) 1 53 ∷
     []

@@ -27,8 +27,9 @@ use Rattle.coordinator.specs.declared.Coordinator.{Coordinator}
 use Rattle.coordinator.proofs.Laws.{appended-unflushed}
 use Rattle.coordinator.proofs.AckCases.{ack-refused, ack-passed, ack-nothing, ack-completed, ack-noted, acknowledged-row, acknowledged-admits}
 use Rattle.writer.specs.Items.{acksBelow}
-use Rattle.writer.specs.Writer.{Writer, acts, writes}
-use Rattle.writer.proofs.Decisions.{Decided, byAck}
+use Rattle.coordinator.specs.Calls.{ackCall, Writer, acts}
+use Rattle.writer.specs.Writer.{writes}
+use Rattle.writer.proofs.Decisions.{Decided, byCall}
 
 -- the row at a place is a flushed prepare that a record completes, with positions outstanding, all of them below k
 pub record Acknowledging (x : Writer) (place : ℕ) (r : Record) (k : ℕ) : Type 0 where
@@ -204,7 +205,7 @@ module _ (text : List ℕ) (place : ℕ) (r : Record) where
         first-does act e q = subst Q (sym (acks-first n x act e)) q
 
         decided : {act : Action} → ackOf x n ≡ act → Decided (x .state) (length (x .log)) act
-        decided e = byAck place (r .pid) (r .epoch) n (sym e)
+        decided e = byCall (ackCall place (r .pid) (r .epoch) n) refl (sym e)
 
         go : (b : Bool) → member (outstanding (rowAt (x .state .table) place)) n ≡ b → (c : Bool) → lastOutstanding (rowAt (x .state .table) place) ≡ c
             → Q (writes text (acksBelow (suc n) place r) x)

@@ -42,6 +42,7 @@ use Rattle.coordinator.specs.Coordinator.{admits, placeOfName, rowOf, holdsName
 use Rattle.coordinator.specs.Init.{needsPid, initRow, idsThen, initTests}
 use Rattle.coordinator.specs.Add.{allJoined, addRow, addTests}
 use Rattle.coordinator.specs.End.{endFits}
+use Rattle.coordinator.specs.Calls.{CoordinatorCall, initCall, addCall, endCall, callTyped, actionOf}
 use Rattle.coordinator.specs.declared.Coordinator.{Coordinator}
 use Rattle.coordinator.proofs.Held.{held-name}
 use Rattle.coordinator.proofs.Reserve.{admits-own}
@@ -49,11 +50,10 @@ use Rattle.coordinator.proofs.InitCases.{init-passes, init-aborting, init-new, 
 use Rattle.coordinator.proofs.AddCases.{add-passes, add-begun, add-widened}
 use Rattle.coordinator.proofs.EndCases.{end-passes, end-prepared}
 use Rattle.writer.proofs.Reopened.{reopened, Reopens}
-use Rattle.writer.specs.LogCalls.{LogCall, callInit, callAdd, callEnd, callTyped, actionOf}
 use Rattle.writer.specs.Items.{abortCall}
 
 -- a call, lent a buffer of n bytes, appends this record
-pub record Appends (s : Coordinator) (n : ℕ) (call : LogCall) (r : Record) : Type 0 where
+pub record Appends (s : Coordinator) (n : ℕ) (call : CoordinatorCall) (r : Record) : Type 0 where
   pub typed : callTyped call ≡ true
   pub place : ℕ
   pub row : Row
@@ -117,16 +117,16 @@ module _ (c : Catalogue) (t : Table) (room : ℕ) (o : Reopens c t room) (r : Re
   same-name k = sym (held-name s (o .valid .proper .all) name k ∙ name-back c r w)
 
   -- a call appends the record if it appends the row that holds it
-  by-row : (call : LogCall) (place : ℕ) (row : Row) → callTyped call ≡ true → actionOf call s room ≡ append place row → row ≡ held r 0 → Appends s room call r
+  by-row : (call : CoordinatorCall) (place : ℕ) (row : Row) → callTyped call ≡ true → actionOf call s room ≡ append place row → row ≡ held r 0 → Appends s room call r
   by-row call place row typed does e =
       record { typed = typed; place = place; row = row; does = does; record-is = ap recordOf e ∙ come-back c t r w m 0 }
 
   -- ---- Init
 
-  abbrev initCall : LogCall
-  initCall = callInit name (r .timeout) (r .updated)
+  abbrev initializing : CoordinatorCall
+  initializing = initCall name (r .timeout) (r .updated)
 
-  init-typed : callTyped initCall ≡ true
+  init-typed : callTyped initializing ≡ true
   init-typed = rw (fits-is w32 (r .timeout) (f .timeout-fits)) (fits-is w64 (r .updated) (f .updated-fits))
 
   timed : inRange (pos 1) (pos timeoutMax) (r .timeout) ≡ true
@@ -157,7 +157,7 @@ module _ (c : Catalogue) (t : Table) (room : ℕ) (o : Reopens c t room) (r : Re
   -- with a new pid
   new-appends : r .status ≡ Empty → idle (before .status) ≡ true → needsPid known before ≡ true → (not known && not (ltb (lowestFree t) places)) ≡ false
       → NewProducer (t .next) r
-      → Appends s room initCall r
+      → Appends s room initializing r
   new-appends e quiet needs placed p =
       let left : ltb (s .last) (newPid s) ≡ false = le-ltb (s .last) (newPid s) (omega (arith, pid-is p)) in
       let accepted =
@@ -166,7 +166,7 @@ module _ (c : Catalogue) (t : Table) (room : ℕ) (o : Reopens c t room) (r : Re
       (rw (clock-is, pid-is p, name-back c r w) (new-held c r w (t .next) e p))
 
   -- with the same pid and the next epoch
-  raise-appends : r .status ≡ Empty → idle (before .status) ≡ true → known ≡ true → Raises before r → Appends s room initCall r
+  raise-appends : r .status ≡ Empty → idle (before .status) ≡ true → known ≡ true → Raises before r → Appends s room initializing r
   raise-appends e quiet k p =
       let kept : needsPid known before ≡ false = rw k (lt-leb epochLast (before .epoch) (p .epoch-below)) in
       let accepted = init-accepted (idle-unprepared (before .status) quiet) (rw k) (rw (kept, and-false (not (isBegin (before .status))))) in
@@ -175,7 +175,7 @@ module _ (c : Catalogue) (t : Table) (room : ℕ) (o : Reopens c t room) (r : Re
       (rw clock-is (named ∙ raised-held c before r w (same-name k) e p))
 
   -- a transaction that has begun is aborted with the next epoch
-  fence-appends : r .status ≡ PrepareAbort → known ≡ true → before .status ≡ Begin → Prepares before r (before .epoch + 1) → Appends s room initCall r
+  fence-appends : r .status ≡ PrepareAbort → known ≡ true → before .status ≡ Begin → Prepares before r (before .epoch + 1) → Appends s room initializing r
   fence-appends e k begins p =
       let b : isBegin (before .status) ≡ true = ap isBegin begins in
       let accepted = init-accepted (ap isPrepare begins) (rw k) (rw b) in
@@ -183,17 +183,17 @@ module _ (c : Catalogue) (t : Table) (room : ℕ) (o : Reopens c t room) (r : Re
       by-row _ _ _ init-typed (does (init-aborting s room name (r .timeout) (r .updated) accepted b))
       (rw (clock-is, raised) (prepared-held c before r w (same-name k) PrepareAbort (before .epoch + 1) e p))
 
-  pub init-appends : r .status ≡ Empty → Appends (reopened c t room (r .pid)) room (callInit (recordName r) (r .timeout) (r .updated)) r
+  pub init-appends : r .status ≡ Empty → Appends (reopened c t room (r .pid)) room (initCall (recordName r) (r .timeout) (r .updated)) r
   init-appends e = either-way (λ k g. again k g (ltb (before .epoch) epochLast) refl) anew
     where
-      again : known ≡ true → follows (t .next) before r ≡ true → (b : Bool) → ltb (before .epoch) epochLast ≡ b → Appends s room initCall r
+      again : known ≡ true → follows (t .next) before r ≡ true → (b : Bool) → ltb (before .epoch) epochLast ≡ b → Appends s room initializing r
       again k g true l =
           raise-appends e (follows-status (t .next) before r Empty e g) k (follows-raises (t .next) before r g e (ltb-true (before .epoch) epochLast l))
       again k g false l =
           let p = follows-renews (t .next) before r g e (ltb-false (before .epoch) epochLast l) in
           new-appends e (follows-status (t .next) before r Empty e g) (rw k (le-leb epochLast (before .epoch) (p .epoch-spent))) (rw k) (p .producer)
 
-      anew : known ≡ false → first (t .next) r ≡ true → ltb (lowestFree t) places ≡ true → Appends s room initCall r
+      anew : known ≡ false → first (t .next) r ≡ true → ltb (lowestFree t) places ≡ true → Appends s room initializing r
       anew k g place =
           let past : places ≤ placeOfName s name = ltb-false (placeOfName s name) places k in
           let none : before ≡ freeRow = List·getD-eq-default (t .rows) freeRow (omega (arith, o .valid .proper .all)) in
@@ -201,10 +201,10 @@ module _ (c : Catalogue) (t : Table) (room : ℕ) (o : Reopens c t room) (r : Re
 
   -- ---- Add
 
-  abbrev addCall : LogCall
-  addCall = callAdd name (r .pid) (r .epoch) (r .joined) (r .updated)
+  abbrev adding : CoordinatorCall
+  adding = addCall name (r .pid) (r .epoch) (r .joined) (r .updated)
 
-  add-typed : callTyped addCall ≡ true
+  add-typed : callTyped adding ≡ true
   add-typed =
       rw (fits-is w64 (r .pid) (f .pid-fits), fits-is w16 (r .epoch) (f .epoch-fits), lt-ltb (r .joined) (2 ^ 64) (f .joined-below))
       (fits-is w64 (r .updated) (f .updated-fits))
@@ -231,14 +231,14 @@ module _ (c : Catalogue) (t : Table) (room : ℕ) (o : Reopens c t room) (r : Re
       })
 
   -- a transaction begins
-  begin-appends : r .status ≡ Begin → known ≡ true → idle (before .status) ≡ true → Begins before r → Appends s room addCall r
+  begin-appends : r .status ≡ Begin → known ≡ true → idle (before .status) ≡ true → Begins before r → Appends s room adding r
   begin-appends e k quiet p =
       let accepted = add-accepted e k (p .pid-kept) (p .epoch-kept) (omega (arith, p .epoch-most)) (idle-unprepared (before .status) quiet) in
       by-row _ _ _ add-typed (does (add-begun s room name (r .pid) (r .epoch) (r .joined) (r .updated) accepted (idle-unbegun (before .status) quiet)))
       (rw clock-is (begun-held c before r w (same-name k) e p))
 
   -- one that has begun is widened
-  widen-appends : r .status ≡ Begin → known ≡ true → before .status ≡ Begin → Widens before r → Appends s room addCall r
+  widen-appends : r .status ≡ Begin → known ≡ true → before .status ≡ Begin → Widens before r → Appends s room adding r
   unfolding allJoined
   widen-appends e k begins p =
       let b : isBegin (before .status) ≡ true = ap isBegin begins in
@@ -247,27 +247,27 @@ module _ (c : Catalogue) (t : Table) (room : ℕ) (o : Reopens c t room) (r : Re
       by-row _ _ _ add-typed (does (add-widened s room name (r .pid) (r .epoch) (r .joined) (r .updated) accepted b more))
       (rw clock-is (widened-held c before r w (same-name k) e p))
 
-  pub add-appends : r .status ≡ Begin → Appends (reopened c t room (r .pid)) room (callAdd (recordName r) (r .pid) (r .epoch) (r .joined) (r .updated)) r
+  pub add-appends : r .status ≡ Begin → Appends (reopened c t room (r .pid)) room (addCall (recordName r) (r .pid) (r .epoch) (r .joined) (r .updated)) r
   add-appends e =
       let (k, g) = held-follows (λ q. not-both (ap isBegin q) (ap isBegin e)) in
       go k g (idle (before .status)) refl (follows-status (t .next) before r Begin e g)
     where
       go : known ≡ true → follows (t .next) before r ≡ true → (b : Bool) → idle (before .status) ≡ b → (b || sameStatus (before .status) Begin) ≡ true
-          → Appends s room addCall r
+          → Appends s room adding r
       go k g true i q = begin-appends e k i (follows-begins (t .next) before r g e i)
       go k g false i q = widen-appends e k (same-status (before .status) Begin q) (follows-widens (t .next) before r g e i)
 
   -- ---- End
 
-  abbrev endCall : ℕ → LogCall
-  endCall verdict = callEnd name (r .pid) (r .epoch) verdict (r .updated)
+  abbrev ending : ℕ → CoordinatorCall
+  ending verdict = endCall name (r .pid) (r .epoch) verdict (r .updated)
 
-  end-typed : (verdict : ℕ) → callTyped (endCall verdict) ≡ true
+  end-typed : (verdict : ℕ) → callTyped (ending verdict) ≡ true
   end-typed verdict = rw (fits-is w64 (r .pid) (f .pid-fits), fits-is w16 (r .epoch) (f .epoch-fits)) (fits-is w64 (r .updated) (f .updated-fits))
 
   -- a transaction that has begun is prepared with the epoch that is held
   end-appends : (verdict : ℕ) → verdict ≤ 1 → r .status ≡ prepareOf verdict → known ≡ true → before .status ≡ Begin → Prepares before r (before .epoch)
-      → Appends s room (endCall verdict) r
+      → Appends s room (ending verdict) r
   unfolding endFits
   end-appends verdict few e k begins p =
       let accepted =
@@ -286,7 +286,7 @@ module _ (c : Catalogue) (t : Table) (room : ℕ) (o : Reopens c t room) (r : Re
       by-row _ _ _ (end-typed verdict) (does (end-prepared s room name (r .pid) (r .epoch) verdict (r .updated) accepted (ap isBegin begins)))
       (rw clock-is (prepared-held c before r w (same-name k) (prepareOf verdict) (before .epoch) e p))
 
-  pub commit-appends : r .status ≡ PrepareCommit → Appends (reopened c t room (r .pid)) room (callEnd (recordName r) (r .pid) (r .epoch) 0 (r .updated)) r
+  pub commit-appends : r .status ≡ PrepareCommit → Appends (reopened c t room (r .pid)) room (endCall (recordName r) (r .pid) (r .epoch) 0 (r .updated)) r
   commit-appends e =
       let (k, g) = held-follows (λ q. not-both (ap isPrepare q) (ap isPrepare e)) in
       let begins = same-status (before .status) Begin (follows-status (t .next) before r PrepareCommit e g) in
@@ -299,6 +299,6 @@ module _ (c : Catalogue) (t : Table) (room : ℕ) (o : Reopens c t room) (r : Re
       let begins = same-status (before .status) Begin (follows-status (t .next) before r PrepareAbort e g) in
       let p = follows-aborts (t .next) before r g e in
       subst (λ (l : List ℕ). Appends s room (abortCall (rowAt t (placeOf t l)) r) r) (name-back c r w)
-      (by-cases (λ (call : LogCall). Appends s room call r) (eqZ (r .epoch) (pos (before .epoch)))
+      (by-cases (λ (call : CoordinatorCall). Appends s room call r) (eqZ (r .epoch) (pos (before .epoch)))
       (λ q. end-appends 1 (omega arith) e k begins (aborts-kept before r p (eqZ-true (r .epoch) (pos (before .epoch)) q)))
       (λ q. fence-appends e k begins (aborts-next before r p (eqZ-false (r .epoch) (pos (before .epoch)) q))))

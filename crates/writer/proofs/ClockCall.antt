@@ -41,7 +41,7 @@ use Rattle.coordinator.proofs.Reserve.{admits-own}
 use Rattle.coordinator.proofs.TickCases.{overdue-nowhere, tick-none}
 use Rattle.writer.specs.Items.{begunPlace, addJoined, clockCall}
 use Rattle.writer.proofs.Reopened.{reopened, Reopens}
-use Rattle.writer.specs.LogCalls.{LogCall, callTick, callTyped, actionOf}
+use Rattle.coordinator.specs.Calls.{CoordinatorCall, tickCall, callTyped, actionOf}
 
 module _ (c : Catalogue) (t : Table) (room : ℕ) (o : Reopens c t room) (pid updated : ℤ) (fit : fits w64 updated ≡ true)
     (time : leZ (pos (t .updated)) updated ≡ true) where
@@ -141,7 +141,7 @@ module _ (c : Catalogue) (t : Table) (room : ℕ) (o : Reopens c t room) (pid up
   none-overdue h place l = rw (first-before (λ (x : Row). isBegin (x .status)) (t .rows) freeRow place (omega arith))
 
   -- so a Tick advances the clock
-  tick-advances : places ≤ begunPlace t → actionOf (callTick updated) s room ≡ advance (clockAt s updated)
+  tick-advances : places ≤ begunPlace t → actionOf (tickCall updated) s room ≡ advance (clockAt s updated)
   unfolding tickTests
   tick-advances h =
       ap (λ (d : Decision TickAnswer Action). d .action)
@@ -151,11 +151,11 @@ module _ (c : Catalogue) (t : Table) (room : ℕ) (o : Reopens c t room) (pid up
 
   pub clock-typed : callTyped (clockCall t updated) ≡ true
   clock-typed =
-      by-cases (λ (call : LogCall). callTyped call ≡ true) (ltb (begunPlace t) places) (λ e. joined-typed (ltb-true (begunPlace t) places e)) (λ e. fit)
+      by-cases (λ (call : CoordinatorCall). callTyped call ≡ true) (ltb (begunPlace t) places) (λ e. joined-typed (ltb-true (begunPlace t) places e)) (λ e. fit)
 
   -- the clock is the time given
   pub clock-advances : actionOf (clockCall t updated) (reopened c t room pid) room ≡ advance (toNat updated)
   clock-advances =
-      by-cases (λ (call : LogCall). actionOf call s room ≡ advance (clockAt s updated)) (ltb (begunPlace t) places)
+      by-cases (λ (call : CoordinatorCall). actionOf call s room ≡ advance (clockAt s updated)) (ltb (begunPlace t) places)
       (λ e. joined-advances (ltb-true (begunPlace t) places e)) (λ e. tick-advances (ltb-false (begunPlace t) places e))
       ∙ ap advance (later-is (t .updated) updated time)

@@ -3,7 +3,6 @@ use Prim.Native.Nat.{ℕ}
 use mathlib.Core.Path.{_≡_, refl, sym, subst, _∙_}
 use mathlib.Core.Bool.{true}
 use mathlib.Core.List.{List}
-use lib.IntN.{ℤ}
 use lib.ListN.{length}
 use borrow.Author.Tests.{eqb-true}
 use Rattle.answers.specs.Refusals.{firstRefusal}
@@ -19,6 +18,7 @@ use Rattle.coordinator.specs.End.{endTests, endAction, end}
 use Rattle.coordinator.specs.Tick.{tickTests, tickAccepted, tick}
 use Rattle.coordinator.specs.Flush.{flushTests, flush}
 use Rattle.coordinator.specs.Ack.{ackTests, ackAction, ack}
+use Rattle.coordinator.specs.Calls.{CoordinatorCall, initCall, addCall, endCall, tickCall, flushCall, ackCall, callTyped, actionOf}
 use Rattle.coordinator.specs.declared.Coordinator.{Coordinator}
 use Rattle.coordinator.proofs.InitCases.{init-passed}
 use Rattle.coordinator.proofs.AddCases.{add-passed}
@@ -26,13 +26,10 @@ use Rattle.coordinator.proofs.EndCases.{end-passed}
 use Rattle.coordinator.proofs.TickCases.{tick-passed}
 use Rattle.coordinator.proofs.AckCases.{ack-passed}
 use Rattle.coordinator.proofs.Reserve.{Reserved, admits-length, init-reserved, add-reserved, end-reserved, tick-reserved, flush-reserved, ack-reserved, log-length}
-use Rattle.writer.specs.LogCalls.{LogCall, callInit, callAdd, callEnd, callTick, callTyped, actionOf}
 
 -- what a call decides on that is lent a log buffer of n bytes
 pub data Decided (s : Coordinator) (n : ℕ) (a : Action) : Type 0 where
-  byCall : (c : LogCall) → callTyped c ≡ true → a ≡ actionOf c s n → Decided s n a
-  byFlush : (length : ℕ) → a ≡ flush s length .action → Decided s n a
-  byAck : (place : ℕ) (pid epoch : ℤ) (position : ℕ) → a ≡ ack s n place pid epoch position .action → Decided s n a
+  byCall : (c : CoordinatorCall) → callTyped c ≡ true → a ≡ actionOf c s n → Decided s n a
 
 -- if a record is appended, a buffer of n bytes is admitted
 abbrev pub AppendsAdmitted : Coordinator → ℕ → Action → Type 0
@@ -50,44 +47,39 @@ module _ (s : Coordinator) (n : ℕ) where
   admitted (acknowledge place position) e = tt
   admitted (flushTo length) e = tt
 
-  call-admitted : (c : LogCall) → AppendsAdmitted s n (actionOf c s n)
-  unfolding init add end tick
-  call-admitted (callInit name timeout time) =
+  call-admitted : (c : CoordinatorCall) → AppendsAdmitted s n (actionOf c s n)
+  unfolding init add end tick flush ack
+  call-admitted (initCall name timeout time) =
       unless-does (firstRefusal (initTests s n name timeout time)) InitRefused keep (initAccepted s name timeout time) (AppendsAdmitted s n) tt
       (λ e. admitted (initAccepted s name timeout time .action) (init-passed s n name timeout time e .admitted))
-  call-admitted (callAdd name pid epoch set time) =
+  call-admitted (addCall name pid epoch set time) =
       unless-does (firstRefusal (addTests s n name pid epoch set time)) Refused keep _ (AppendsAdmitted s n) tt
       (λ e. admitted (addAction s name set time) (add-passed s n name pid epoch set time e .admitted))
-  call-admitted (callEnd name pid epoch verdict time) =
+  call-admitted (endCall name pid epoch verdict time) =
       unless-does (firstRefusal (endTests s n name pid epoch verdict)) Refused keep _ (AppendsAdmitted s n) tt
       (λ e. admitted (endAction s name verdict time) (end-passed s n name pid epoch verdict time e .admitted))
-  call-admitted (callTick time) =
+  call-admitted (tickCall time) =
       unless-does (firstRefusal (tickTests s n)) TickRefused keep (tickAccepted s time) (AppendsAdmitted s n) tt (λ e. admitted (tickAccepted s time .action) (tick-passed s n time e .admitted))
-
-  decided-is : {a b : Action} → a ≡ b → AppendsAdmitted s n b → AppendsAdmitted s n a
-  decided-is e h = subst (AppendsAdmitted s n) (sym e) h
+  call-admitted (flushCall length) = unless-does (firstRefusal (flushTests s length)) Refused keep _ (AppendsAdmitted s n) tt (λ e. tt)
+  call-admitted (ackCall place pid epoch position) =
+      unless-does (firstRefusal (ackTests s n place pid epoch position)) Refused keep _ (AppendsAdmitted s n) tt
+      (λ e. admitted (ackAction s place position (rowAt (s .table) place)) (ack-passed s n place pid epoch position e .admitted))
 
   pub decided-admitted : (a : Action) → Decided s n a → AppendsAdmitted s n a
-  unfolding flush ack
-  decided-admitted a (byCall c t e) = decided-is e (call-admitted c)
-  decided-admitted a (byFlush length e) = decided-is e (unless-does (firstRefusal (flushTests s length)) Refused keep _ (AppendsAdmitted s n) tt (λ f. tt))
-  decided-admitted a (byAck place pid epoch position e) =
-      decided-is e
-      (unless-does (firstRefusal (ackTests s n place pid epoch position)) Refused keep _ (AppendsAdmitted s n) tt
-      (λ f. admitted (ackAction s place position (rowAt (s .table) place)) (ack-passed s n place pid epoch position f .admitted)))
+  decided-admitted a (byCall c t e) = subst (AppendsAdmitted s n) (sym e) (call-admitted c)
 
 module _ (s : Coordinator) (r : Reserved s) where
-  call-reserved : (n : ℕ) (c : LogCall) → Reserved (after (actionOf c s n) s)
-  call-reserved n (callInit name timeout time) = init-reserved s r n name timeout time
-  call-reserved n (callAdd name pid epoch set time) = add-reserved s r n name pid epoch set time
-  call-reserved n (callEnd name pid epoch verdict time) = end-reserved s r n name pid epoch verdict time
-  call-reserved n (callTick time) = tick-reserved s r n time
+  call-reserved : (n : ℕ) (c : CoordinatorCall) → Reserved (after (actionOf c s n) s)
+  call-reserved n (initCall name timeout time) = init-reserved s r n name timeout time
+  call-reserved n (addCall name pid epoch set time) = add-reserved s r n name pid epoch set time
+  call-reserved n (endCall name pid epoch verdict time) = end-reserved s r n name pid epoch verdict time
+  call-reserved n (tickCall time) = tick-reserved s r n time
+  call-reserved n (flushCall length) = flush-reserved s r length
+  call-reserved n (ackCall place pid epoch position) = ack-reserved s r n place pid epoch position
 
   -- the reserve stands
   pub decided-reserved : (n : ℕ) (a : Action) → Decided s n a → Reserved (after a s)
   decided-reserved n a (byCall c t e) = rw e (call-reserved n c)
-  decided-reserved n a (byFlush length e) = rw e (flush-reserved s r length)
-  decided-reserved n a (byAck place pid epoch position e) = rw e (ack-reserved s r n place pid epoch position)
 
   -- and the log buffer keeps its length
   pub decided-length : (log : List ℕ) (a : Action) → Decided s (length log) a → length (logAfter a s log) ≡ length log

@@ -50,6 +50,7 @@ use Rattle.coordinator.specs.End.{endTests, endAction, end}
 use Rattle.coordinator.specs.Tick.{overduePlace, tickTests, tickAccepted, tick}
 use Rattle.coordinator.specs.Flush.{flushTests, flush}
 use Rattle.coordinator.specs.Ack.{lastOutstanding, ackTests, ackAction, ack}
+use Rattle.coordinator.specs.Calls.{CoordinatorCall, initCall, addCall, endCall, tickCall, flushCall, ackCall, callTyped, actionOf}
 use Rattle.coordinator.specs.declared.Coordinator.{Coordinator}
 use Rattle.coordinator.proofs.Held.{held-name, held-row, begun-place}
 use Rattle.coordinator.proofs.InitCases.{InitPassed, init-passed}
@@ -57,8 +58,7 @@ use Rattle.coordinator.proofs.AddCases.{AddPassed, add-passed}
 use Rattle.coordinator.proofs.TickCases.{overdue-found}
 use Rattle.coordinator.proofs.FlushCases.{flush-passed}
 use Rattle.coordinator.proofs.AckCases.{AckPassed, ack-passed}
-use Rattle.writer.specs.LogCalls.{LogCall, callInit, callAdd, callEnd, callTick, callTyped, actionOf}
-use Rattle.writer.proofs.Decisions.{Decided, byCall, byFlush, byAck}
+use Rattle.writer.proofs.Decisions.{Decided, byCall}
 
 -- the numbers beside the table are those of document 01's types
 pub record NumbersFit (s : Coordinator) : Type 0 where
@@ -367,14 +367,14 @@ module _ (s : Coordinator) (r : Ready s) where
 
   -- ---- whichever call it is
 
-  call-lawful : (n : ℕ) (c : LogCall) → callTyped c ≡ true → Lawful s (actionOf c s n)
-  call-lawful n (callInit name timeout time) t = init-lawful time (and-right (fits w32 timeout) (fits w64 time) t) n name timeout
-  call-lawful n (callAdd name pid epoch set time) t =
+  call-lawful : (n : ℕ) (c : CoordinatorCall) → callTyped c ≡ true → Lawful s (actionOf c s n)
+  call-lawful n (initCall name timeout time) t = init-lawful time (and-right (fits w32 timeout) (fits w64 time) t) n name timeout
+  call-lawful n (addCall name pid epoch set time) t =
       add-lawful time (search (and-left, and-right) depth 8) n name pid epoch set (ltb-true set (2 ^ 64) (search (and-left, and-right) depth 8))
-  call-lawful n (callEnd name pid epoch verdict time) t = end-lawful time (search (and-left, and-right) depth 8) n name pid epoch verdict
-  call-lawful n (callTick time) t = tick-lawful time t n
+  call-lawful n (endCall name pid epoch verdict time) t = end-lawful time (search (and-left, and-right) depth 8) n name pid epoch verdict
+  call-lawful n (tickCall time) t = tick-lawful time t n
+  call-lawful n (flushCall length) t = flush-lawful length
+  call-lawful n (ackCall place pid epoch position) t = ack-lawful n place pid epoch position
 
 pub decided-lawful : (s : Coordinator) → Ready s → (n : ℕ) (a : Action) → Decided s n a → Lawful s a
 decided-lawful s r n a (byCall c t e) = rw e (call-lawful s r n c t)
-decided-lawful s r n a (byFlush length e) = rw e (flush-lawful s r length)
-decided-lawful s r n a (byAck place pid epoch position e) = rw e (ack-lawful s r n place pid epoch position)

@@ -2,7 +2,7 @@
 pub mod Decisions
 pub mod Lawful
 pub mod Written
-mod OpeningAnswers
+pub mod OpeningAnswers
 pub mod Reopening
 pub mod Reached
 mod Reopened
@@ -11,4 +11,5 @@ mod ClockCall
 mod Acks
 mod Completing
 mod CouldWrite
+mod Places
 pub mod Demand2

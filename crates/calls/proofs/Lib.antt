@@ -1,0 +1,2 @@
+-- Laws of the crate calls.
+pub mod Laws
