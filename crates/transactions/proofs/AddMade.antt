@@ -12,7 +12,6 @@ use mir.Facts.{toZ-ofZ}
 use Rattle.numbers.specs.Border.{eqZ}
 use Rattle.numbers.proofs.Tests.{and-false-right}
 use Rattle.bits.specs.Bits.{subset}
-use Rattle.record.specs.Record.{nameFits}
 use Rattle.row.specs.Limits.{epochMax}
 use Rattle.row.specs.Row.{isBegin, isPrepare}
 use Rattle.row.specs.Steps.{begun, widened}
@@ -21,12 +20,13 @@ use Rattle.answers.specs.Refusals.{firstRefusal, orRefuse}
 use Rattle.answers.specs.declared.Answer.the-variants.{Done, Refused}
 use Rattle.answers.proofs.Laws.{after-none, after-next, after-all}
 use Rattle.table.specs.Table.{rowAt, idCount}
-use Rattle.coordinator.specs.Coordinator.{logEnd, admits, placeOfName, clockAt, rowFrame, logFull, advance, append, after, logAfter, Performed}
+use Rattle.table.specs.declared.Held.{Held}
+use Rattle.coordinator.specs.Coordinator.{logEnd, admits, clockAt, rowFrame, logFull, advance, append, after, logAfter, Performed}
 use Rattle.coordinator.specs.Add.{allJoined, addRow, addRowTests, addTests, addAction, add}
 use Rattle.coordinator.specs.declared.Coordinator.{Coordinator}
 use Rattle.coordinator.proofs.AddCases.{AddPassed, add-passed}
 use Rattle.coordinator.proofs.Laws.{fits-tested}
-use Rattle.transactions.specs.Parts.{nameTests, notHeldAt, addFull, addAt}
+use Rattle.transactions.specs.Parts.{nameTests, FoundFor, notHeldAt, addFull, addAt}
 use Rattle.transactions.proofs.Made.{named-refused, named-passed, named-fits, row-is, not-held-is, tested-at, performed-refused, performed-accepted}
 
 -- ---- the record
@@ -60,18 +60,19 @@ module _ (s : Coordinator) (n : ℕ) (name : List ℕ) (pid epoch : ℤ) (set : 
   add-named h = named-refused s n name made h _
 
   -- the others, one after the other
-  pub add-tested : first ≡ 0 → {place : ℕ} → (nameFits name ≡ true → place ≡ placeOfName s name) → {row : Row} → row ≡ rowAt (s .table) place
+  pub add-tested : first ≡ 0 → {held : Held} → FoundFor s name held
       → {r3 r10 r11 r12 r14 r17 : ℕ} {listed unheld barred prepare full : Bool}
       → listed ≡ subset set (s .catalogue .all) → r3 ≡ orRefuse 0 3 (eqb set 0 || not listed)
-      → unheld ≡ notHeldAt place row pid → r10 ≡ orRefuse r3 10 unheld
-      → barred ≡ (not (eqZ epoch (pos (row .epoch))) || eqZ epoch (pos epochMax)) → r11 ≡ orRefuse r10 11 barred
-      → r12 ≡ orRefuse r11 12 (ltb (s .flushed) (row .end))
-      → prepare ≡ isPrepare (row .status) → r14 ≡ orRefuse r12 14 prepare
-      → full ≡ addFull s row set time → r17 ≡ orRefuse r14 17 full
+      → unheld ≡ notHeldAt (held .place) (held .row) pid → r10 ≡ orRefuse r3 10 unheld
+      → barred ≡ (not (eqZ epoch (pos (held .row .epoch))) || eqZ epoch (pos epochMax)) → r11 ≡ orRefuse r10 11 barred
+      → r12 ≡ orRefuse r11 12 (ltb (s .flushed) (held .row .end))
+      → prepare ≡ isPrepare (held .row .status) → r14 ≡ orRefuse r12 14 prepare
+      → full ≡ addFull s (held .row) set time → r17 ≡ orRefuse r14 17 full
       → r17 ≡ firstRefusal (addTests s n name pid epoch set time)
   unfolding addTests addRowTests
-  add-tested none place-is taken l e3 u e10 b e11 e12 p e14 f e17 =
-      let found = place-is (named-fits s n name made none) in
+  add-tested none held-is l e3 u e10 b e11 e12 p e14 f e17 =
+      let found = held-is .0 (named-fits s n name made none) in
+      let taken = held-is .1 in
       let h = row-is s name found taken in
       sym (named-passed s n name made none _ ∙ (after-none _
       ∙ (after-next _ _ _ _ refl (rw l) e3
@@ -94,10 +95,9 @@ module _ (s : Coordinator) (place set : ℕ) (time : ℤ) (log : List ℕ) {cloc
 
   module _ (j : joined ≡ false) {new : Row} (made : new ≡ addRow row set clock) where
     -- 17 was tested
-    pub add-fits : (n : ℕ) → admits s n ≡ true → addFull s (rowAt (s .table) place) set time ≡ false → logEnd s + length (rowFrame s new) ≤ n
+    pub add-fits : (n : ℕ) → admits s n ≡ true → addFull s row set time ≡ false → logEnd s + length (rowFrame s new) ≤ n
     add-fits n a f =
-        let k = tested-at (λ (r : Row). allJoined r set) taken tested j in
-        rw (made, taken, timed) (fits-tested s n a (addRow (rowAt (s .table) place) set (clockAt s time)) (idCount (s .table)) (and-false-right _ _ (ap not k) f))
+        rw (made, timed) (fits-tested s n a (addRow row set (clockAt s time)) (idCount (s .table)) (and-false-right _ _ (ap not (sym tested ∙ j)) f))
 
     pub add-appends : {state : Coordinator} {out : List ℕ} → state ≡ after (append place new) s → out ≡ logAfter (append place new) s log
         → (state ≡ after (addAt s place set time) s) × (out ≡ logAfter (addAt s place set time) s log)
@@ -118,17 +118,17 @@ module _ (s : Coordinator) (n : ℕ) (name : List ℕ) (pid epoch : ℤ) (set : 
   add-refuses h log =
       performed-refused (firstRefusal (addTests s n name pid epoch set time)) Refused (record { answer = Done; action = addAction s name set time }) s log number h
 
-  module _ (z : r ≡ 0) {place : ℕ} (place-is : nameFits name ≡ true → place ≡ placeOfName s name) where
+  module _ (z : r ≡ 0) {held : Held} (held-is : FoundFor s name held) where
     passed : AddPassed s n name pid epoch set time
     passed = add-passed s n name pid epoch set time (sym number ∙ z)
 
-    pub add-admitted : (admits s n ≡ true) × (addFull s (rowAt (s .table) place) set (toZ w64 (ofZ w64 time)) ≡ false)
-    add-admitted = (passed .admitted, rw (toZ-ofZ t, place-is (passed .named)) (passed .room))
+    pub add-admitted : (admits s n ≡ true) × (held .row ≡ rowAt (s .table) (held .place)) × (addFull s (held .row) set (toZ w64 (ofZ w64 time)) ≡ false)
+    add-admitted = (passed .admitted, held-is .1, rw (toZ-ofZ t, row-is s name (held-is .0 (passed .named)) (held-is .1)) (passed .room))
 
     pub add-performs : (log : List ℕ) {state : Coordinator} {out : List ℕ}
-        → (state ≡ after (addAt s place set (toZ w64 (ofZ w64 time))) s) × (out ≡ logAfter (addAt s place set (toZ w64 (ofZ w64 time))) s log)
+        → (state ≡ after (addAt s (held .place) set (toZ w64 (ofZ w64 time))) s) × (out ≡ logAfter (addAt s (held .place) set (toZ w64 (ofZ w64 time))) s log)
         → Performed (add s n name pid epoch set time) s log Done state out
     unfolding add addAt addAction
     add-performs log h =
         performed-accepted (firstRefusal (addTests s n name pid epoch set time)) Refused (record { answer = Done; action = addAction s name set time }) s log (sym number ∙ z)
-        (rw (h .0, h .1, toZ-ofZ t, place-is (passed .named)) (refl, refl, refl))
+        (rw (h .0, h .1, toZ-ofZ t, held-is .0 (passed .named)) (refl, refl, refl))

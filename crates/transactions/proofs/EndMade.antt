@@ -9,7 +9,6 @@ use mir.Syntax.{w16, w64}
 use mir.Val.{SFits, toZ, ofZ}
 use mir.Facts.{toZ-ofZ}
 use Rattle.numbers.specs.Border.{eqZ}
-use Rattle.record.specs.Record.{nameFits}
 use Rattle.record.specs.declared.Status.{Status}
 use Rattle.row.specs.Row.{isBegin, isPrepare}
 use Rattle.row.specs.Steps.{prepared, prepareOf}
@@ -18,11 +17,12 @@ use Rattle.answers.specs.Refusals.{firstRefusal, orRefuse}
 use Rattle.answers.specs.declared.Answer.the-variants.{Done, Refused}
 use Rattle.answers.proofs.Laws.{after-none, after-next, after-all}
 use Rattle.table.specs.Table.{rowAt}
-use Rattle.coordinator.specs.Coordinator.{admits, placeOfName, clockAt, advance, append, after, logAfter, Performed}
+use Rattle.table.specs.declared.Held.{Held}
+use Rattle.coordinator.specs.Coordinator.{admits, clockAt, advance, append, after, logAfter, Performed}
 use Rattle.coordinator.specs.End.{endFits, endRowTests, endTests, endAction, end}
 use Rattle.coordinator.specs.declared.Coordinator.{Coordinator}
 use Rattle.coordinator.proofs.EndCases.{EndPassed, end-passed}
-use Rattle.transactions.specs.Parts.{nameTests, notHeldAt, endAt}
+use Rattle.transactions.specs.Parts.{nameTests, FoundFor, notHeldAt, endAt}
 use Rattle.transactions.proofs.Made.{named-refused, named-passed, named-fits, row-is, not-held-is, tested-at, performed-refused, performed-accepted}
 
 -- ---- the tests
@@ -33,18 +33,19 @@ module _ (s : Coordinator) (n : ℕ) (name : List ℕ) (pid epoch : ℤ) (verdic
   end-named h = named-refused s n name made h _
 
   -- the others, one after the other
-  pub end-tested : first ≡ 0 → {place : ℕ} → (nameFits name ≡ true → place ≡ placeOfName s name) → {row : Row} → row ≡ rowAt (s .table) place
+  pub end-tested : first ≡ 0 → {held : Held} → FoundFor s name held
       → {r4 r10 r11 r12 r13 r14 : ℕ} {unheld same fits prepare : Bool}
       → r4 ≡ orRefuse 0 4 (ltb 1 verdict)
-      → unheld ≡ notHeldAt place row pid → r10 ≡ orRefuse r4 10 unheld
-      → same ≡ eqZ epoch (pos (row .epoch)) → r11 ≡ orRefuse r10 11 (not same)
-      → r12 ≡ orRefuse r11 12 (ltb (s .flushed) (row .end))
-      → fits ≡ endFits (row .status) verdict → r13 ≡ orRefuse r12 13 (not fits)
-      → prepare ≡ isPrepare (row .status) → r14 ≡ orRefuse r13 14 prepare
+      → unheld ≡ notHeldAt (held .place) (held .row) pid → r10 ≡ orRefuse r4 10 unheld
+      → same ≡ eqZ epoch (pos (held .row .epoch)) → r11 ≡ orRefuse r10 11 (not same)
+      → r12 ≡ orRefuse r11 12 (ltb (s .flushed) (held .row .end))
+      → fits ≡ endFits (held .row .status) verdict → r13 ≡ orRefuse r12 13 (not fits)
+      → prepare ≡ isPrepare (held .row .status) → r14 ≡ orRefuse r13 14 prepare
       → r14 ≡ firstRefusal (endTests s n name pid epoch verdict)
   unfolding endTests endRowTests
-  end-tested none place-is taken e4 u e10 v e11 e12 f e13 p e14 =
-      let found = place-is (named-fits s n name made none) in
+  end-tested none held-is e4 u e10 v e11 e12 f e13 p e14 =
+      let found = held-is .0 (named-fits s n name made none) in
+      let taken = held-is .1 in
       let h = row-is s name found taken in
       sym (named-passed s n name made none _ ∙ (after-none _
       ∙ (after-next _ _ _ _ refl refl e4
@@ -92,10 +93,10 @@ module _ (s : Coordinator) (n : ℕ) (name : List ℕ) (pid epoch : ℤ) (verdic
     pub end-admitted : admits s n ≡ true
     end-admitted = passed .admitted
 
-    pub end-performs : {place : ℕ} → (nameFits name ≡ true → place ≡ placeOfName s name) → SFits w64 time → (log : List ℕ) {state : Coordinator} {out : List ℕ}
-        → (state ≡ after (endAt s place verdict (toZ w64 (ofZ w64 time))) s) × (out ≡ logAfter (endAt s place verdict (toZ w64 (ofZ w64 time))) s log)
+    pub end-performs : {held : Held} → FoundFor s name held → SFits w64 time → (log : List ℕ) {state : Coordinator} {out : List ℕ}
+        → (state ≡ after (endAt s (held .place) verdict (toZ w64 (ofZ w64 time))) s) × (out ≡ logAfter (endAt s (held .place) verdict (toZ w64 (ofZ w64 time))) s log)
         → Performed (end s n name pid epoch verdict time) s log Done state out
     unfolding end endAt endAction
-    end-performs place-is f log h =
+    end-performs held-is f log h =
         performed-accepted (firstRefusal (endTests s n name pid epoch verdict)) Refused (record { answer = Done; action = endAction s name verdict time }) s log (sym number ∙ z)
-        (rw (h .0, h .1, toZ-ofZ f, place-is (passed .named)) (refl, refl, refl))
+        (rw (h .0, h .1, toZ-ofZ f, held-is .0 (passed .named)) (refl, refl, refl))

@@ -12,15 +12,19 @@ use mir.Val.{SFits, toZ, ofZ}
 use mir.Facts.{toZ-ofZ}
 use borrow.Author.Tests.{eq-eqb, ne-eqb, lt-ltb, le-ltb, ltb-true, ltb-false, not-false}
 use Rattle.numbers.specs.Border.{eqZ, laterOf}
+use Rattle.numbers.specs.Padded.{padded}
+use Rattle.record.specs.Limits.{nameMax}
 use Rattle.record.specs.Record.{nameFits}
+use Rattle.record.proofs.Bounds.{name-short}
 use Rattle.row.specs.declared.Row.{Row}
 use Rattle.answers.specs.Refusals.{Test, firstRefusal, numbersOf, among, Decision, unless}
 use Rattle.answers.proofs.Laws.{none-applies, first-append, unless-accepted, unless-refused}
 use Rattle.table.specs.Limits.{reserve}
-use Rattle.table.specs.Table.{rowAt}
+use Rattle.table.specs.Table.{rowAt, placeOf}
+use Rattle.table.specs.declared.Held.{Held}
 use Rattle.coordinator.specs.Coordinator.{logEnd, placeOfName, rowOf, notHeld, clockAt, rowFrame, logFull, Action, keep, Performed}
 use Rattle.coordinator.specs.declared.Coordinator.{Coordinator}
-use Rattle.transactions.specs.Parts.{nameTests, notHeldAt}
+use Rattle.transactions.specs.Parts.{nameTests, FoundFor, notHeldAt}
 
 -- ---- signed arguments, as the code passes them to a call
 
@@ -67,6 +71,11 @@ module _ (s : Coordinator) (n : ℕ) (name : List ℕ) {first : ℕ} (made : fir
     named-fits = not-false _ (none-applies (nameTests s n name) refl (sym made ∙ z) .1 .0)
 
 -- ---- the row of a name
+
+-- what the search of a padded name gives
+pub found-for : (s : Coordinator) (name : List ℕ) {own : List ℕ} → (length name ≤ nameMax → own ≡ padded nameMax name) → {held : Held}
+    → (held .place ≡ placeOf (s .table) own) × (held .row ≡ rowAt (s .table) (placeOf (s .table) own)) → FoundFor s name held
+found-for s name p e = (λ f. e .0 ∙ ap (placeOf (s .table)) (p (name-short name f)), e .1 ∙ ap (rowAt (s .table)) (sym (e .0)))
 
 module _ (s : Coordinator) (name : List ℕ) {place : ℕ} (found : place ≡ placeOfName s name) {row : Row} (taken : row ≡ rowAt (s .table) place) where
   pub row-is : row ≡ rowOf s name

@@ -1,6 +1,7 @@
 -- Parts of the calls by name, over the place that was found for it: what the functions that do their work are held to.
 use Prim.Native.Nat.{ℕ, _+_}
-use mathlib.Core.Bool.{Bool, cond, not, _&&_, _||_}
+use mathlib.Core.Path.{_≡_}
+use mathlib.Core.Bool.{Bool, true, cond, not, _&&_, _||_}
 use mathlib.Core.List.{List, [], _∷_}
 use lib.Dec.{ltb}
 use lib.IntN.{ℤ, pos}
@@ -11,9 +12,9 @@ use Rattle.row.specs.Steps.{initialized, prepared, prepareOf, ended, raise}
 use Rattle.row.specs.declared.Row.{Row}
 use Rattle.answers.specs.Limits.{places}
 use Rattle.answers.specs.Refusals.{Test, refuse}
-use Rattle.table.specs.Table.{rowAt, lowestFree, idCount}
-use Rattle.table.specs.declared.Table.{Table}
-use Rattle.coordinator.specs.Coordinator.{admits, clockAt, logFull, Action, advance, append}
+use Rattle.table.specs.Table.{rowAt, idCount}
+use Rattle.table.specs.declared.Held.{Held}
+use Rattle.coordinator.specs.Coordinator.{admits, placeOfName, clockAt, logFull, Action, advance, append}
 use Rattle.coordinator.specs.Init.{needsPid}
 use Rattle.coordinator.specs.Add.{allJoined, addRow}
 use Rattle.coordinator.specs.declared.Coordinator.{Coordinator}
@@ -21,6 +22,10 @@ use Rattle.coordinator.specs.declared.Coordinator.{Coordinator}
 -- the two tests with which each of these calls begins
 abbrev pub nameTests : Coordinator → ℕ → List ℕ → List Test
 nameTests s n name = refuse 8 (not (admits s n)) ∷ refuse 1 (not (nameFits name)) ∷ []
+
+-- what a name's place and row were found to be: nothing is said of the place of a name that does not fit
+abbrev pub FoundFor : Coordinator → List ℕ → Held → Type 0
+FoundFor s name held = (nameFits name ≡ true → held .place ≡ placeOfName s name) × (held .row ≡ rowAt (s .table) (held .place))
 
 -- 10, for the row of the place that was found
 abbrev pub notHeldAt : ℕ → Row → ℤ → Bool
@@ -30,10 +35,6 @@ notHeldAt place row pid = not (ltb place places) || not (eqZ pid (pos (row .pid)
 unfoldable pub initRowWith : List ℕ → Bool → Row → ℕ → ℤ → ℕ → Row
 initRowWith name known row pid timeout clock =
     cond (needsPid known row) (initialized name pid 0 (toNat timeout) clock) (initialized name (row .pid) (row .epoch + 1) (toNat timeout) clock)
-
--- the place for a name whose place was found
-abbrev pub placeForAt : Table → ℕ → ℕ
-placeForAt t place = cond (ltb place places) place (lowestFree t)
 
 -- 17 of Add
 abbrev pub addFull : Coordinator → Row → ℕ → ℤ → Bool

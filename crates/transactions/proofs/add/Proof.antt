@@ -1,18 +1,34 @@
 -- `transactions::add` meets its contract.
 use lib.ListN.{length}
+use Rattle.transactions.specs.Parts.{FoundFor}
+use Rattle.transactions.proofs.Made.{found-for}
 use Rattle.transactions.proofs.AddMade.{add-refuses, add-admitted, add-performs}
 use borrow.Author.Needs.{needs}
 use Rattle.transactions.proofs.add.Statement.{statement}
 use Rattle.transactions.proofs.add.Tie as tie
 
 abbrev start : tie.After-add-refusal → tie.Start
-start r = r .before .before .before .before
+start r = r .before .before .before .before .before .before .before .before
 
-place-of-name-requires : tie.Need-place-of-name-requires
-place-of-name-requires c κs = search needs
+held-is : (f : tie.After-find) → let a = f .before .before .before .before .before .before .before .args in FoundFor (a .s) (a .name .now) (f .find .result)
+held-is f =
+    let a = f .before .before .before .before .before .before .before .args in
+    found-for (a .s) (a .name .now) (f .before .padded-name .ensures) (f .find .ensures)
+
+reserved-requires : tie.Need-reserved-requires
+reserved-requires c κs = search needs
+
+id-count-requires : tie.Need-id-count-requires
+id-count-requires c κs = search needs
+
+padded-name-requires : tie.Need-padded-name-requires
+padded-name-requires c κs = search needs
+
+find-requires : tie.Need-find-requires
+find-requires c κs = search needs
 
 add-refusal-requires : tie.Need-add-refusal-requires
-add-refusal-requires c κs = c .place-of-name .ensures
+add-refusal-requires c κs = let i = c .before .before in (i .before .reserved .ensures, i .id-count .ensures, held-is c)
 
 returns : tie.Need-returns
 returns c =
@@ -27,7 +43,7 @@ add-action-requires c κs =
     let r = x .before in
     let s = start r in
     let a = s .args in
-    add-admitted (a .s) (length (a .log .now)) (a .name .now) (a .pid) (a .epoch) (a .set) (a .time) (s .fits .pid) (s .fits .epoch) (s .fits .time) (r .add-refusal .ensures) (x .if1 .left) (r .before .place-of-name .ensures)
+    add-admitted (a .s) (length (a .log .now)) (a .name .now) (a .pid) (a .epoch) (a .set) (a .time) (s .fits .pid) (s .fits .epoch) (s .fits .time) (r .add-refusal .ensures) (x .if1 .left) (held-is (r .before))
 
 same-length : tie.Need-same-length
 same-length c = search needs
@@ -39,13 +55,16 @@ returns-2 c =
     let r = x .before in
     let s = start r in
     let a = s .args in
-    add-performs (a .s) (length (a .log .now)) (a .name .now) (a .pid) (a .epoch) (a .set) (a .time) (s .fits .pid) (s .fits .epoch) (s .fits .time) (r .add-refusal .ensures) (x .if1 .left) (r .before .place-of-name .ensures) (a .log .now) (d .add-action .ensures)
+    add-performs (a .s) (length (a .log .now)) (a .name .now) (a .pid) (a .epoch) (a .set) (a .time) (s .fits .pid) (s .fits .epoch) (s .fits .time) (r .add-refusal .ensures) (x .if1 .left) (held-is (r .before)) (a .log .now) (d .add-action .ensures)
 
 pub add-spec : {M : Type 1} → statement M
 add-spec =
     tie.close
     (tie.spec
-    place-of-name-requires
+    reserved-requires
+    id-count-requires
+    padded-name-requires
+    find-requires
     add-refusal-requires
     returns
     add-action-requires

@@ -8,9 +8,6 @@ use Rattle.transactions.proofs.add_action.Tie as tie
 later-requires : tie.Need-later-requires
 later-requires c κs = search needs
 
-row-at-requires : tie.Need-row-at-requires
-row-at-requires c κs = search needs
-
 all-joined-requires : tie.Need-all-joined-requires
 all-joined-requires c κs = search needs
 
@@ -21,50 +18,51 @@ returns : tie.Need-returns
 returns c =
     let e = c .before in
     let j = e .before in
-    let r = j .before in
-    let k = r .before .before in
+    let k = j .before .before in
     let s = k .before .before in
     let a = s .args in
-    add-advances (a .s) (a .place) (a .set) (a .time) (a .log .now) (clock-is (a .s) (s .fits .time) (k .later .ensures)) (r .row-at .ensures) (j .all-joined .ensures) (e .if1 .taken) (c .advance .ensures)
+    add-advances (a .s) (a .held .place) (a .set) (a .time) (a .log .now) (clock-is (a .s) (s .fits .time) (k .later .ensures)) (s .pre .1) (j .all-joined .ensures) (e .if1 .taken) (c .advance .ensures)
 
 add-row-requires : tie.Need-add-row-requires
 add-row-requires c κs = search needs
 
-append-requires : tie.Need-append-requires
-append-requires c κs =
-    let e = c .before .before in
+write-row-requires : tie.Need-write-row-requires
+write-row-requires c κs =
+    let w = c .before .before in
+    let e = w .before in
     let j = e .before in
-    let r = j .before in
-    let k = r .before .before in
+    let k = j .before .before in
     let s = k .before .before in
     let a = s .args in
-    add-fits (a .s) (a .place) (a .set) (a .time) (a .log .now) (clock-is (a .s) (s .fits .time) (k .later .ensures)) (r .row-at .ensures) (j .all-joined .ensures) (e .if1 .left) (c .add-row .ensures) _ (s .pre .0) (s .pre .1)
+    add-fits (a .s) (a .held .place) (a .set) (a .time) (a .log .now) (clock-is (a .s) (s .fits .time) (k .later .ensures)) (s .pre .1) (j .all-joined .ensures) (e .if1 .left) (w .add-row .ensures) _ (s .pre .0) (s .pre .2)
+
+appended-requires : tie.Need-appended-requires
+appended-requires c κs = c .before .before .write-row .ensures .0
 
 same-length : tie.Need-same-length
 same-length c = search needs
 
 returns-2 : tie.Need-returns-2
 returns-2 c =
-    let n = c .before .before in
-    let w = n .before in
-    let e = w .before .before in
+    let n = c .before .before .before in
+    let w = n .before .before .before in
+    let e = w .before in
     let j = e .before in
-    let r = j .before in
-    let k = r .before .before in
+    let k = j .before .before in
     let s = k .before .before in
     let a = s .args in
-    add-appends (a .s) (a .place) (a .set) (a .time) (a .log .now) (clock-is (a .s) (s .fits .time) (k .later .ensures)) (r .row-at .ensures) (j .all-joined .ensures) (e .if1 .left) (w .add-row .ensures) (n .append .ensures .0) (n .append .ensures .1)
+    add-appends (a .s) (a .held .place) (a .set) (a .time) (a .log .now) (clock-is (a .s) (s .fits .time) (k .later .ensures)) (s .pre .1) (j .all-joined .ensures) (e .if1 .left) (w .add-row .ensures) (c .appended .ensures) (n .write-row .ensures .1)
 
 pub add-action-spec : {M : Type 1} → statement M
 add-action-spec =
     tie.close
     (tie.spec
     later-requires
-    row-at-requires
     all-joined-requires
     advance-requires
     returns
     add-row-requires
-    append-requires
+    write-row-requires
+    appended-requires
     same-length
     returns-2)

@@ -21,21 +21,17 @@ later-requires c κs = search needs
 add-row-requires : tie.Need-add-row-requires
 add-row-requires c κs = search needs
 
-id-count-requires : tie.Need-id-count-requires
-id-count-requires c κs = search needs
-
 log-full-requires : tie.Need-log-full-requires
-log-full-requires c κs = omega (arith, c .id-count .ensures .1)
+log-full-requires c κs = omega arith
 
 returns-2 : tie.Need-returns-2
 returns-2 c =
-    let i = c .before in
-    let w = i .before in
-    let k = w .before .before in
+    let w = c .before in
+    let k = w .before in
     let j = k .before in
     let s = j .before .before in
     let a = s .args in
-    add-full-is (a .s) (a .row) (a .set) (a .time) (sym (j .before .all-joined .ensures) ∙ j .if1 .left) (clock-is (a .s) (s .fits .time) (k .later .ensures)) (w .add-row .ensures) (i .id-count .ensures .0) (c .log-full .ensures)
+    add-full-is (a .s) (a .row) (a .set) (a .time) (sym (j .before .all-joined .ensures) ∙ j .if1 .left) (clock-is (a .s) (s .fits .time) (k .later .ensures)) (w .add-row .ensures) (s .pre .0) (c .log-full .ensures)
 
 pub add-full-spec : {M : Type 1} → statement M
 add-full-spec =
@@ -45,6 +41,5 @@ add-full-spec =
     returns
     later-requires
     add-row-requires
-    id-count-requires
     log-full-requires
     returns-2)

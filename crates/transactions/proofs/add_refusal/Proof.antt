@@ -11,15 +11,12 @@ use Rattle.transactions.proofs.add_refusal.Statement.{statement}
 use Rattle.transactions.proofs.add_refusal.Tie as tie
 
 name-refusal-requires : tie.Need-name-refusal-requires
-name-refusal-requires c κs = search needs
+name-refusal-requires c κs = c .before .pre .0
 
 returns : tie.Need-returns
 returns c =
     let a = c .before .before .before .args in
     add-named (a .s) (a .n) (a .name .now) (a .pid) (a .epoch) (a .set) (a .time) (c .before .name-refusal .ensures) (c .if1 .taken)
-
-row-at-requires : tie.Need-row-at-requires
-row-at-requires c κs = search needs
 
 subset-requires : tie.Need-subset-requires
 subset-requires c κs = search needs
@@ -49,7 +46,10 @@ or-refuse-requires-5 : tie.Need-or-refuse-requires-5
 or-refuse-requires-5 c κs = search needs
 
 add-full-requires : tie.Need-add-full-requires
-add-full-requires c κs = search needs
+add-full-requires c κs =
+    let o4 = c .before .before in
+    let o1 = o4 .before .before .before .before .before .before .before in
+    o1 .before .before .before .before .before .before .before .pre .1
 
 or-refuse-requires-6 : tie.Need-or-refuse-requires-6
 or-refuse-requires-6 c κs = search needs
@@ -66,18 +66,17 @@ returns-2 c =
     let h = o2 .before in
     let o1 = h .before in
     let l = o1 .before in
-    let r = l .before in
-    let x = r .before .before .before in
+    let x = l .before .before .before in
     let n = x .before in
     let s = n .before .before in
     let a = s .args in
-    add-tested (a .s) (a .n) (a .name .now) (a .pid) (a .epoch) (a .set) (a .time) (n .name-refusal .ensures) (x .if1 .left) (s .pre) (r .row-at .ensures)
+    add-tested (a .s) (a .n) (a .name .now) (a .pid) (a .epoch) (a .set) (a .time) (n .name-refusal .ensures) (x .if1 .left) (s .pre .2)
     (l .subset .ensures) (o1 .or-refuse .ensures)
-    (passed-on (notHeldAt (a .place) (r .row-at .result)) (s .fits .pid) (h .not-held .ensures)) (o2 .or-refuse2 .ensures)
-    (passed-on (λ (z : ℤ). not (eqZ z (pos (r .row-at .result .epoch))) || eqZ z (pos epochMax)) (s .fits .epoch) (e .add-epoch-refused .ensures)) (o3 .or-refuse3 .ensures)
+    (passed-on (notHeldAt (a .held .place) (a .held .row)) (s .fits .pid) (h .not-held .ensures)) (o2 .or-refuse2 .ensures)
+    (passed-on (λ (z : ℤ). not (eqZ z (pos (a .held .row .epoch))) || eqZ z (pos epochMax)) (s .fits .epoch) (e .add-epoch-refused .ensures)) (o3 .or-refuse3 .ensures)
     (o4 .or-refuse4 .ensures)
     (p .is-prepare .ensures) (o5 .or-refuse5 .ensures)
-    (passed-on (addFull (a .s) (r .row-at .result) (a .set)) (s .fits .time) (f .add-full .ensures)) (c .or-refuse6 .ensures)
+    (passed-on (addFull (a .s) (a .held .row) (a .set)) (s .fits .time) (f .add-full .ensures)) (c .or-refuse6 .ensures)
 
 pub add-refusal-spec : {M : Type 1} → statement M
 add-refusal-spec =
@@ -85,7 +84,6 @@ add-refusal-spec =
     (tie.spec
     name-refusal-requires
     returns
-    row-at-requires
     subset-requires
     or-refuse-requires
     not-held-requires

@@ -1,18 +1,31 @@
 -- `transactions::end` meets its contract.
 use lib.ListN.{length}
+use Rattle.transactions.specs.Parts.{FoundFor}
+use Rattle.transactions.proofs.Made.{found-for}
 use Rattle.transactions.proofs.EndMade.{end-refuses, end-admitted, end-performs}
 use borrow.Author.Needs.{needs}
 use Rattle.transactions.proofs.end.Statement.{statement}
 use Rattle.transactions.proofs.end.Tie as tie
 
 abbrev start : tie.After-end-refusal → tie.Start
-start r = r .before .before .before .before
+start r = r .before .before .before .before .before .before .before
 
-place-of-name-requires : tie.Need-place-of-name-requires
-place-of-name-requires c κs = search needs
+held-is : (f : tie.After-find) → let a = f .before .before .before .before .before .before .args in FoundFor (a .s) (a .name .now) (f .find .result)
+held-is f =
+    let a = f .before .before .before .before .before .before .args in
+    found-for (a .s) (a .name .now) (f .before .padded-name .ensures) (f .find .ensures)
+
+reserved-requires : tie.Need-reserved-requires
+reserved-requires c κs = search needs
+
+padded-name-requires : tie.Need-padded-name-requires
+padded-name-requires c κs = search needs
+
+find-requires : tie.Need-find-requires
+find-requires c κs = search needs
 
 end-refusal-requires : tie.Need-end-refusal-requires
-end-refusal-requires c κs = c .place-of-name .ensures
+end-refusal-requires c κs = (c .before .before .reserved .ensures, held-is c)
 
 returns : tie.Need-returns
 returns c =
@@ -27,7 +40,7 @@ end-action-requires c κs =
     let r = x .before in
     let s = start r in
     let a = s .args in
-    end-admitted (a .s) (length (a .log .now)) (a .name .now) (a .pid) (a .epoch) (a .verdict) (a .time) (s .fits .pid) (s .fits .epoch) (r .end-refusal .ensures) (x .if1 .left)
+    (end-admitted (a .s) (length (a .log .now)) (a .name .now) (a .pid) (a .epoch) (a .verdict) (a .time) (s .fits .pid) (s .fits .epoch) (r .end-refusal .ensures) (x .if1 .left), held-is (r .before) .1)
 
 same-length : tie.Need-same-length
 same-length c = search needs
@@ -39,13 +52,15 @@ returns-2 c =
     let r = x .before in
     let s = start r in
     let a = s .args in
-    end-performs (a .s) (length (a .log .now)) (a .name .now) (a .pid) (a .epoch) (a .verdict) (a .time) (s .fits .pid) (s .fits .epoch) (r .end-refusal .ensures) (x .if1 .left) (r .before .place-of-name .ensures) (s .fits .time) (a .log .now) (d .end-action .ensures)
+    end-performs (a .s) (length (a .log .now)) (a .name .now) (a .pid) (a .epoch) (a .verdict) (a .time) (s .fits .pid) (s .fits .epoch) (r .end-refusal .ensures) (x .if1 .left) (held-is (r .before)) (s .fits .time) (a .log .now) (d .end-action .ensures)
 
 pub end-spec : {M : Type 1} → statement M
 end-spec =
     tie.close
     (tie.spec
-    place-of-name-requires
+    reserved-requires
+    padded-name-requires
+    find-requires
     end-refusal-requires
     returns
     end-action-requires

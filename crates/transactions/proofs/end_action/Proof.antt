@@ -12,9 +12,6 @@ use Rattle.transactions.proofs.end_action.Tie as tie
 later-requires : tie.Need-later-requires
 later-requires c κs = search needs
 
-row-at-requires : tie.Need-row-at-requires
-row-at-requires c κs = search needs
-
 is-begin-requires : tie.Need-is-begin-requires
 is-begin-requires c κs = search needs
 
@@ -25,11 +22,10 @@ returns : tie.Need-returns
 returns c =
     let e = c .before in
     let b = e .before in
-    let r = b .before in
-    let k = r .before .before in
+    let k = b .before .before in
     let s = k .before .before in
     let a = s .args in
-    end-advances (a .s) (a .place) (a .verdict) (a .time) (a .log .now) (clock-is (a .s) (s .fits .time) (k .later .ensures)) (r .row-at .ensures) (b .is-begin .ensures) (not-true _ (e .if1 .taken)) (c .advance .ensures)
+    end-advances (a .s) (a .held .place) (a .verdict) (a .time) (a .log .now) (clock-is (a .s) (s .fits .time) (k .later .ensures)) (s .pre .1) (b .is-begin .ensures) (not-true _ (e .if1 .taken)) (c .advance .ensures)
 
 prepare-of-requires : tie.Need-prepare-of-requires
 prepare-of-requires c κs = search needs
@@ -37,43 +33,45 @@ prepare-of-requires c κs = search needs
 prepared-requires : tie.Need-prepared-requires
 prepared-requires c κs = search needs
 
-append-requires : tie.Need-append-requires
-append-requires c κs =
-    let e = c .before .before .before in
+write-row-requires : tie.Need-write-row-requires
+write-row-requires c κs =
+    let w = c .before .before in
+    let e = w .before .before in
     let b = e .before in
-    let r = b .before in
-    let s = r .before .before .before .before in
+    let s = b .before .before .before .before in
     let a = s .args in
-    fits-begun (a .s) _ (s .pre) (a .place) (tested-at (λ (x : Row). isBegin (x .status)) (r .row-at .ensures) (b .is-begin .ensures) (not-false _ (e .if1 .left))) (c .before .prepared .result)
+    fits-begun (a .s) _ (s .pre .0) (a .held .place) (tested-at (λ (x : Row). isBegin (x .status)) (s .pre .1) (b .is-begin .ensures) (not-false _ (e .if1 .left))) (w .prepared .result)
+
+appended-requires : tie.Need-appended-requires
+appended-requires c κs = c .before .before .write-row .ensures .0
 
 same-length : tie.Need-same-length
 same-length c = search needs
 
 returns-2 : tie.Need-returns-2
 returns-2 c =
-    let n = c .before .before in
-    let w = n .before .before in
+    let n = c .before .before .before in
+    let w = n .before .before .before in
     let p = w .before in
     let e = p .before in
     let b = e .before in
-    let r = b .before in
-    let k = r .before .before in
+    let k = b .before .before in
     let s = k .before .before in
     let a = s .args in
-    end-appends (a .s) (a .place) (a .verdict) (a .time) (a .log .now) (clock-is (a .s) (s .fits .time) (k .later .ensures)) (r .row-at .ensures) (b .is-begin .ensures) (not-false _ (e .if1 .left))
-    (p .prepare-of .ensures) (w .prepared .ensures) (n .append .ensures .0) (n .append .ensures .1)
+    end-appends (a .s) (a .held .place) (a .verdict) (a .time) (a .log .now) (clock-is (a .s) (s .fits .time) (k .later .ensures)) (s .pre .1) (b .is-begin .ensures) (not-false _ (e .if1 .left))
+    (p .prepare-of .ensures) (w .prepared .ensures) (c .appended .ensures) (n .write-row .ensures .1)
 
 pub end-action-spec : {M : Type 1} → statement M
 end-action-spec =
     tie.close
     (tie.spec
     later-requires
-    row-at-requires
     is-begin-requires
     advance-requires
     returns
     prepare-of-requires
     prepared-requires
-    append-requires
+    write-row-requires
+    appended-requires
     same-length
     returns-2)

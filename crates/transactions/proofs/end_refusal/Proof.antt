@@ -9,15 +9,12 @@ use Rattle.transactions.proofs.end_refusal.Statement.{statement}
 use Rattle.transactions.proofs.end_refusal.Tie as tie
 
 name-refusal-requires : tie.Need-name-refusal-requires
-name-refusal-requires c κs = search needs
+name-refusal-requires c κs = c .before .pre .0
 
 returns : tie.Need-returns
 returns c =
     let a = c .before .before .before .args in
     end-named (a .s) (a .n) (a .name .now) (a .pid) (a .epoch) (a .verdict) (c .before .name-refusal .ensures) (c .if1 .taken)
-
-row-at-requires : tie.Need-row-at-requires
-row-at-requires c κs = search needs
 
 or-refuse-requires : tie.Need-or-refuse-requires
 or-refuse-requires c κs = search needs
@@ -60,15 +57,14 @@ returns-2 c =
     let o2 = e .before in
     let h = o2 .before in
     let o1 = h .before in
-    let r = o1 .before in
-    let x = r .before .before in
+    let x = o1 .before .before in
     let n = x .before in
     let s = n .before .before in
     let a = s .args in
-    end-tested (a .s) (a .n) (a .name .now) (a .pid) (a .epoch) (a .verdict) (n .name-refusal .ensures) (x .if1 .left) (s .pre) (r .row-at .ensures)
+    end-tested (a .s) (a .n) (a .name .now) (a .pid) (a .epoch) (a .verdict) (n .name-refusal .ensures) (x .if1 .left) (s .pre .1)
     (o1 .or-refuse .ensures)
-    (passed-on (notHeldAt (a .place) (r .row-at .result)) (s .fits .pid) (h .not-held .ensures)) (o2 .or-refuse2 .ensures)
-    (passed-on (λ (z : ℤ). eqZ z (pos (r .row-at .result .epoch))) (s .fits .epoch) (e .same-epoch .ensures)) (o3 .or-refuse3 .ensures)
+    (passed-on (notHeldAt (a .held .place) (a .held .row)) (s .fits .pid) (h .not-held .ensures)) (o2 .or-refuse2 .ensures)
+    (passed-on (λ (z : ℤ). eqZ z (pos (a .held .row .epoch))) (s .fits .epoch) (e .same-epoch .ensures)) (o3 .or-refuse3 .ensures)
     (o4 .or-refuse4 .ensures)
     (f .end-fits .ensures) (o5 .or-refuse5 .ensures)
     (p .is-prepare .ensures) (c .or-refuse6 .ensures)
@@ -79,7 +75,6 @@ end-refusal-spec =
     (tie.spec
     name-refusal-requires
     returns
-    row-at-requires
     or-refuse-requires
     not-held-requires
     or-refuse-requires-2

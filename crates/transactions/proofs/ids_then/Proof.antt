@@ -6,21 +6,14 @@ use borrow.Author.Needs.{needs}
 use Rattle.transactions.proofs.ids_then.Statement.{statement}
 use Rattle.transactions.proofs.ids_then.Tie as tie
 
-id-count-requires : tie.Need-id-count-requires
-id-count-requires c κs = search needs
-
 returns : tie.Need-returns
-returns c =
-    let p = c .before .before .args .place in
-    (rw (lt-ltb p places (omega arith)) (omega (arith, c .before .id-count .ensures .0)), omega (arith, c .before .id-count .ensures .1))
+returns c = let a = c .before .args in (rw (lt-ltb (a .place) places (omega arith)) (omega arith), omega arith)
 
 add-result : tie.Need-add-result
 add-result c = search needs
 
 returns-2 : tie.Need-returns-2
-returns-2 c =
-    let p = c .before .before .args .place in
-    (rw (le-ltb p places (omega arith)) (omega (arith, c .before .id-count .ensures .0)), omega (arith, c .before .id-count .ensures .1))
+returns-2 c = let a = c .before .args in (rw (le-ltb (a .place) places (omega arith)) (omega arith), omega arith)
 
 pub ids-then-spec : {M : Type 1} → statement M
-ids-then-spec = tie.close (tie.spec id-count-requires returns add-result returns-2)
+ids-then-spec = tie.close (tie.spec returns add-result returns-2)

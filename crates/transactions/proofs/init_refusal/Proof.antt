@@ -1,21 +1,16 @@
 -- `transactions::init_refusal` meets its contract.
-use Rattle.record.proofs.Bounds.{name-short}
-use Rattle.transactions.proofs.Made.{named-fits}
 use Rattle.transactions.proofs.InitMade.{init-named, init-tested}
 use borrow.Author.Needs.{needs}
 use Rattle.transactions.proofs.init_refusal.Statement.{statement}
 use Rattle.transactions.proofs.init_refusal.Tie as tie
 
 name-refusal-requires : tie.Need-name-refusal-requires
-name-refusal-requires c κs = search needs
+name-refusal-requires c κs = c .before .pre .0
 
 returns : tie.Need-returns
-returns c =
+returns c = λ time made.
     let a = c .before .before .before .args in
-    init-named (a .s) (a .n) (a .name .now) (a .timeout) (a .time) (c .before .name-refusal .ensures) (c .if1 .taken)
-
-row-at-requires : tie.Need-row-at-requires
-row-at-requires c κs = search needs
+    init-named (a .s) (a .n) (a .name .now) (a .timeout) time (c .before .name-refusal .ensures) (c .if1 .taken)
 
 is-begin-requires : tie.Need-is-begin-requires
 is-begin-requires c κs = search needs
@@ -23,18 +18,8 @@ is-begin-requires c κs = search needs
 new-pid-requires : tie.Need-new-pid-requires
 new-pid-requires c κs = search needs
 
-padded-name-requires : tie.Need-padded-name-requires
-padded-name-requires c κs =
-    let x = c .before .before .before .before .before in
-    let n = x .before in
-    let a = n .before .before .args in
-    name-short (a .name .now) (named-fits (a .s) (a .n) (a .name .now) (n .name-refusal .ensures) (x .if1 .left))
-
-init-row-requires : tie.Need-init-row-requires
-init-row-requires c κs = search needs
-
 ids-then-requires : tie.Need-ids-then-requires
-ids-then-requires c κs = search needs
+ids-then-requires c κs = c .before .before .before .before .before .before .before .before .pre .1 .1
 
 log-full-requires : tie.Need-log-full-requires
 log-full-requires c κs = c .ids-then .ensures .1
@@ -70,7 +55,7 @@ or-refuse-requires-6 : tie.Need-or-refuse-requires-6
 or-refuse-requires-6 c κs = search needs
 
 returns-2 : tie.Need-returns-2
-returns-2 c =
+returns-2 c = λ time made.
     let o5 = c .before in
     let d = o5 .before in
     let o4 = d .before in
@@ -82,22 +67,19 @@ returns-2 c =
     let t = o1 .before in
     let f = t .before in
     let j = f .before in
-    let w = j .before in
-    let m = w .before in
-    let i = m .before .before in
-    let b = i .before in
-    let r = b .before in
-    let x = r .before .before in
+    let i = j .before .before in
+    let b = i .before .before in
+    let x = b .before .before in
     let n = x .before in
     let s = n .before .before in
     let a = s .args in
-    init-tested (a .s) (a .n) (a .name .now) (a .timeout) (a .time) (n .name-refusal .ensures) (x .if1 .left) (s .pre) (r .row-at .ensures) (s .fits .timeout) (s .fits .time)
+    init-tested (a .s) (a .n) (a .name .now) (a .timeout) time (n .name-refusal .ensures) (x .if1 .left) (s .pre .3) (s .fits .timeout)
     (t .timeout-fits .ensures) (o1 .or-refuse .ensures)
     (o2 .or-refuse2 .ensures)
     (p .is-prepare .ensures) (o3 .or-refuse3 .ensures)
-    (q .place-for .ensures) (o4 .or-refuse4 .ensures)
+    (s .pre .2) (q .place-for .ensures) (o4 .or-refuse4 .ensures)
     (b .is-begin .ensures) (d .needs-pid .ensures) (i .new-pid .ensures) (o5 .or-refuse5 .ensures)
-    (m .padded-name .ensures) (w .init-row .ensures) (j .ids-then .ensures .0) (f .log-full .ensures) (c .or-refuse6 .ensures)
+    made (s .pre .1 .0) (j .ids-then .ensures .0) (f .log-full .ensures) (c .or-refuse6 .ensures)
 
 pub init-refusal-spec : {M : Type 1} → statement M
 init-refusal-spec =
@@ -105,11 +87,8 @@ init-refusal-spec =
     (tie.spec
     name-refusal-requires
     returns
-    row-at-requires
     is-begin-requires
     new-pid-requires
-    padded-name-requires
-    init-row-requires
     ids-then-requires
     log-full-requires
     timeout-fits-requires

@@ -1,12 +1,11 @@
 -- `transactions::init_row` meets its contract.
+use lib.Dec.{ltb}
+use Rattle.answers.specs.Limits.{places}
 use Rattle.transactions.proofs.Made.{clock-is}
 use Rattle.transactions.proofs.InitMade.{init-row-is}
 use borrow.Author.Needs.{needs}
 use Rattle.transactions.proofs.init_row.Statement.{statement}
 use Rattle.transactions.proofs.init_row.Tie as tie
-
-row-at-requires : tie.Need-row-at-requires
-row-at-requires c κs = search needs
 
 later-requires : tie.Need-later-requires
 later-requires c κs = search needs
@@ -20,13 +19,10 @@ init-row-with-requires c κs = search needs
 returns : tie.Need-returns
 returns c =
     let p = c .before in
-    let l = p .before in
-    let r = l .before in
-    let s = r .before .before in
+    let l = p .before .before in
+    let s = l .before .before in
     let a = s .args in
-    init-row-is (a .s) (a .name) (a .place) (a .timeout) (a .time) (s .fits .timeout) (r .row-at .ensures) (clock-is (a .s) (s .fits .time) (l .later .ensures)) (p .new-pid .ensures) (c .init-row-with .ensures)
+    init-row-is (a .s) (a .name) (ltb (a .held .place) places) (a .held .row) (a .timeout) (a .time) (s .fits .timeout) (clock-is (a .s) (s .fits .time) (l .later .ensures)) (p .new-pid .ensures) (c .init-row-with .ensures)
 
 pub init-row-spec : {M : Type 1} → statement M
-init-row-spec =
-    tie.close
-    (tie.spec row-at-requires later-requires new-pid-requires init-row-with-requires returns)
+init-row-spec = tie.close (tie.spec later-requires new-pid-requires init-row-with-requires returns)

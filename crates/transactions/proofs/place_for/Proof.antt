@@ -9,11 +9,8 @@ use Rattle.transactions.proofs.place_for.Tie as tie
 returns : tie.Need-returns
 returns c = rw (lt-ltb (c .before .args .place) places (omega arith))
 
-lowest-free-requires : tie.Need-lowest-free-requires
-lowest-free-requires c κs = search needs
-
 returns-2 : tie.Need-returns-2
-returns-2 c = rw (le-ltb (c .before .before .args .place) places (omega arith)) (c .lowest-free .ensures)
+returns-2 c = rw (le-ltb (c .before .args .place) places (omega arith))
 
 pub place-for-spec : {M : Type 1} → statement M
-place-for-spec = tie.close (tie.spec returns lowest-free-requires returns-2)
+place-for-spec = tie.close (tie.spec returns returns-2)
