@@ -1,0 +1,206 @@
+// Reads command lines and writes what each is: its word, where its name stands, and the numbers of its fields, in lines of the listing's form.
+use command::Command;
+use command::Part;
+use libc::STDIN_FILENO;
+use libc::STDOUT_FILENO;
+use lines::Cursor;
+use lines::Last;
+use lines::Next;
+use listing::Rendered;
+use listing::Reply;
+use listing::Results;
+
+// A short buffer, so that many lines do not fit it.
+const LINE_ROOM: usize = 64;
+
+const OUT_ROOM: usize = 512;
+
+// Writes a line.
+fn print(row: usize, reply: Reply, first: usize, second: usize, payloads: &[u64]) {
+    let mut out = [0u8; OUT_ROOM];
+    let rendered = listing::render(&mut out, 0, row, reply, first, second, payloads);
+    if let Rendered::Next(end) = rendered {
+        if end <= OUT_ROOM {
+            io::write_all(STDOUT_FILENO, &out[..end]);
+        }
+    }
+}
+
+// Writes numbers of a command, and where its name stands.
+fn print_named(row: usize, number: u8, results: Results, name: Part, payloads: &[u64]) {
+    let reply = Reply::Answered { number, results };
+    print(row, reply, name.from, name.len, payloads);
+}
+
+fn print_two(row: usize, a: i64, b: i64, name: Part) {
+    let payloads = [0u64; 2];
+    print_named(row, 0, Results::Two(a, b), name, &payloads);
+}
+
+fn print_three(row: usize, first: i64, second: i64, third: i64, name: Part) {
+    let payloads = [0u64; 2];
+    let results = Results::Three {
+        first,
+        second,
+        third,
+    };
+    print_named(row, 0, results, name, &payloads);
+}
+
+fn print_payloads(row: usize, a: u64, b: u64, name: Part) {
+    let mut payloads = [0u64; 2];
+    payloads[0] = a;
+    payloads[1] = b;
+    print_named(row, 0, Results::Payloads(2), name, &payloads);
+}
+
+fn print_one(row: usize, a: u64) {
+    print_payloads(row, a, a, Part { from: 0, len: 0 });
+}
+
+fn print_other(row: usize, reply: Reply) {
+    let payloads = [0u64; 1];
+    print(row, reply, 1, 18446744073709551615, &payloads);
+}
+
+// Writes what a command is.
+fn print_command(c: Command) {
+    let row = command::row_of_command(c);
+    match c {
+        Command::Init {
+            name,
+            timeout,
+            time,
+        } => print_two(row, numbers::wide_i32(timeout), time, name),
+        Command::Add {
+            name,
+            pid,
+            epoch,
+            set,
+            time,
+        } => {
+            print_three(row, pid, numbers::wide_i16(epoch), time, name);
+            print_payloads(row, set, 0, name)
+        }
+        Command::End {
+            name,
+            pid,
+            epoch,
+            verdict,
+            time,
+        } => {
+            print_three(row, pid, numbers::wide_i16(epoch), time, name);
+            print_payloads(row, verdict, 0, name)
+        }
+        Command::Tick { time } => print_two(row, time, time, Part { from: 0, len: 0 }),
+        Command::Flush => print_other(
+            row,
+            Reply::Answered {
+                number: 22,
+                results: Results::Empty,
+            },
+        ),
+        Command::Put {
+            name,
+            pid,
+            epoch,
+            position,
+            sequence,
+            payload,
+        } => {
+            print_three(
+                row,
+                pid,
+                numbers::wide_i16(epoch),
+                numbers::wide_i32(sequence),
+                name,
+            );
+            print_payloads(row, position, payload, name)
+        }
+        Command::Carry { up } => print_one(row, up),
+        Command::Read { position } => print_one(row, position),
+        Command::Cut { kept } => print_one(row, kept),
+        Command::Unknown => print_other(row, Reply::Unknown),
+    }
+}
+
+// Writes what a part of the buffer is.
+fn print_part(buffer: &[u8], from: usize, len: usize) {
+    if from <= buffer.len() {
+        if len <= buffer.len() - from {
+            let end = from + len;
+            print_command(command::parse(&buffer[from..end]));
+        }
+    }
+}
+
+// Writes the lines that end in the buffer. Each has a line feed, so there are at most as many as it has bytes.
+fn print_lines(buffer: &[u8], start: Cursor) -> Cursor {
+    let mut cursor = start;
+    let mut turns = buffer.len();
+    while 0 < turns {
+        match lines::next_line(buffer, cursor) {
+            Next::Line { from, len, rest } => {
+                print_part(buffer, from, len);
+                cursor = rest;
+            }
+            Next::Long { rest } => {
+                print_command(Command::Unknown);
+                cursor = rest;
+            }
+            Next::More => {
+                return cursor;
+            }
+        }
+        turns -= 1;
+    }
+    cursor
+}
+
+// Writes what is left at the end.
+fn print_last(buffer: &[u8], cursor: Cursor) {
+    match lines::last_line(buffer, cursor) {
+        Last::Line { from, len } => print_part(buffer, from, len),
+        Last::Long => print_command(Command::Unknown),
+        Last::Nothing => (),
+    }
+}
+
+// Reads a part behind what is kept; the same cursor if there is no more.
+fn read_part(buffer: &mut [u8], kept: Cursor) -> Cursor {
+    let end = kept.end;
+    if buffer.len() < end {
+        return kept;
+    }
+    let got = libc::read(STDIN_FILENO, &mut buffer[end..]);
+    let n = io::count(got, &buffer[end..]);
+    if buffer.len() - end < n {
+        return kept;
+    }
+    Cursor {
+        from: 0,
+        end: end + n,
+        skipping: kept.skipping,
+    }
+}
+
+fn main() {
+    let mut buffer = [0u8; LINE_ROOM];
+    let mut cursor = Cursor {
+        from: 0,
+        end: 0,
+        skipping: false,
+    };
+    let mut turns = u64::MAX;
+    while 0 < turns {
+        cursor = lines::keep(&mut buffer, cursor);
+        let end = cursor.end;
+        cursor = read_part(&mut buffer, cursor);
+        if cursor.end == end {
+            print_last(&buffer, cursor);
+            return;
+        }
+        cursor = print_lines(&buffer, cursor);
+        turns -= 1;
+    }
+}

@@ -1,0 +1,6 @@
+-- Laws of the crate lines.
+mod Ends
+mod Moving
+mod Steps
+pub mod Parts
+pub mod Buffer

@@ -1,0 +1,3 @@
+-- Definitions of the crate lines.
+pub mod Text
+pub mod Cursor

@@ -1,0 +1,4 @@
+-- Laws of the crate listing.
+mod Writing
+mod Payloads
+mod Whole

@@ -1,0 +1,3 @@
+-- Definitions of the crate listing.
+pub mod Limits
+pub mod Listing

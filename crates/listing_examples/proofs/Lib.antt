@@ -1,0 +1,2 @@
+-- Theorems of the crate listing_examples.
+pub mod Right

@@ -1,0 +1,2 @@
+-- Definitions of the crate listing_examples.
+pub mod Examples
