@@ -1,0 +1,3 @@
+-- Proofs of the crate replies.
+pub mod Lines
+pub mod Room

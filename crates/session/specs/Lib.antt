@@ -1,0 +1,6 @@
+-- Definitions of the crate session.
+pub mod Limits
+pub mod Replies
+pub mod Memory
+pub mod Commands
+pub mod Refusals

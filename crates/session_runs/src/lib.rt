@@ -1,0 +1,1 @@
+// No code: a session of commands is a run of demand 3.
