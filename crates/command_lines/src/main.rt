@@ -63,6 +63,30 @@ fn print_other(row: usize, reply: Reply) {
     print(row, reply, 1, 18446744073709551615, &payloads);
 }
 
+// Writes a command of a producer: its pid and epoch, one more signed number, and two others.
+fn print_producer(row: usize, name: Part, pid: i64, epoch: i16, number: i64, a: u64, b: u64) {
+    print_three(row, pid, numbers::wide_i16(epoch), number, name);
+    print_payloads(row, a, b, name)
+}
+
+// Writes what a command without a name is; the numbers of `flush` show two digits.
+fn print_nameless(row: usize, c: Command) {
+    match c {
+        Command::Tick { time } => print_two(row, time, time, Part { from: 0, len: 0 }),
+        Command::Flush => print_other(
+            row,
+            Reply::Answered {
+                number: 22,
+                results: Results::Empty,
+            },
+        ),
+        Command::Carry { up } => print_one(row, up),
+        Command::Read { position } => print_one(row, position),
+        Command::Cut { kept } => print_one(row, kept),
+        _ => print_other(row, Reply::Unknown),
+    }
+}
+
 // Writes what a command is.
 fn print_command(c: Command) {
     let row = command::row_of_command(c);
@@ -78,28 +102,14 @@ fn print_command(c: Command) {
             epoch,
             set,
             time,
-        } => {
-            print_three(row, pid, numbers::wide_i16(epoch), time, name);
-            print_payloads(row, set, 0, name)
-        }
+        } => print_producer(row, name, pid, epoch, time, set, 0),
         Command::End {
             name,
             pid,
             epoch,
             verdict,
             time,
-        } => {
-            print_three(row, pid, numbers::wide_i16(epoch), time, name);
-            print_payloads(row, verdict, 0, name)
-        }
-        Command::Tick { time } => print_two(row, time, time, Part { from: 0, len: 0 }),
-        Command::Flush => print_other(
-            row,
-            Reply::Answered {
-                number: 22,
-                results: Results::Empty,
-            },
-        ),
+        } => print_producer(row, name, pid, epoch, time, verdict, 0),
         Command::Put {
             name,
             pid,
@@ -108,19 +118,10 @@ fn print_command(c: Command) {
             sequence,
             payload,
         } => {
-            print_three(
-                row,
-                pid,
-                numbers::wide_i16(epoch),
-                numbers::wide_i32(sequence),
-                name,
-            );
-            print_payloads(row, position, payload, name)
+            let number = numbers::wide_i32(sequence);
+            print_producer(row, name, pid, epoch, number, position, payload)
         }
-        Command::Carry { up } => print_one(row, up),
-        Command::Read { position } => print_one(row, position),
-        Command::Cut { kept } => print_one(row, kept),
-        Command::Unknown => print_other(row, Reply::Unknown),
+        _ => print_nameless(row, c),
     }
 }
 
