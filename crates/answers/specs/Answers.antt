@@ -2,6 +2,7 @@
 use Prim.Native.Nat.{ℕ}
 use mathlib.Core.List.{List, [], _∷_}
 use lib.IntN.{ℤ, pos}
+use Rattle.answers.specs.Numbers.{invalidLog}
 use Rattle.answers.specs.declared.Answer.{Answer}
 use Rattle.answers.specs.declared.Answer.the-variants.{Done, Refused}
 use Rattle.answers.specs.declared.OpenAnswer.{OpenAnswer}
@@ -36,7 +37,7 @@ reply (Refused number) = refused number
 -- "6 log, with the offset of the first bad frame"
 abbrev pub openReply : OpenAnswer → Reply
 openReply Opened = accepted []
-openReply (BadLog offset) = record { number = 6; results = pos offset ∷ [] }
+openReply (BadLog offset) = record { number = invalidLog; results = pos offset ∷ [] }
 openReply (OpenRefused number) = refused number
 
 -- "answer pid, epoch", "answer ABORTING"

@@ -1,13 +1,14 @@
 // Which function meets which case of `Call`, the calls of document 01: one function for each case, whose contract cites the case.
 use answers::OrderAnswer;
 use answers::ReadAnswer;
+use coordinator::Answered;
 use coordinator::Coordinator;
+use coordinator::Initialized;
 use coordinator::OpenedLog;
 use coordinator::Ticked;
 use partition::Marked;
 use partition::Partition;
 use server::Produced;
-use transactions::Initialized;
 ghost use Rattle.answers.specs.Answers.{reply, openReply, initReply, tickReply, orderReply, produceReply, readReply};
 ghost use Rattle.coordinator.specs.Calls.{initCall, addCall, endCall, tickCall, ackCall};
 ghost use Rattle.server.specs.Calls.{call, produceCall, markerCall};
@@ -17,7 +18,7 @@ ghost use Rattle.calls.specs.Meets.{OfCoordinator, OfFlush, OfOrder, OfO
 pub fn opening(text: &[u8], log: &[u8], n: usize, epoch: i32, first: i64, last: i64) -> OpenedLog
     ensures { λ r. ⌜ OfOpening (now (text .entry)) n epoch first last (now (log .entry)) (openReply (r .answer)) (r .state) ⌝ }
 {
-    coordinator::opening(text, log, n, epoch, first, last)
+    opening::opening(text, log, n, epoch, first, last)
 }
 
 // Opening of a partition.
@@ -31,7 +32,7 @@ pub fn open_partition(n: usize) -> Partition
 pub fn init(s: Coordinator, log: &mut [u8], name: &[u8], timeout: i32, time: i64) -> Initialized
     ensures { λ r. ⌜ OfCoordinator (call (initCall (now (name .entry)) timeout time)) s (now (log .entry)) (initReply (r .answer)) (r .state) (now (log .exit)) ⌝ }
 {
-    transactions::init(s, log, name, timeout, time)
+    producer_ids::init(s, log, name, timeout, time)
 }
 
 // Add.
@@ -43,7 +44,7 @@ pub fn add(
     epoch: i16,
     set: u64,
     time: i64,
-) -> transactions::Answered
+) -> Answered
     ensures { λ r. ⌜ OfCoordinator (call (addCall (now (name .entry)) pid epoch set time)) s (now (log .entry)) (reply (r .answer)) (r .state) (now (log .exit)) ⌝ }
 {
     transactions::add(s, log, name, pid, epoch, set, time)
@@ -58,7 +59,7 @@ pub fn end(
     epoch: i16,
     verdict: u64,
     time: i64,
-) -> transactions::Answered
+) -> Answered
     ensures { λ r. ⌜ OfCoordinator (call (endCall (now (name .entry)) pid epoch verdict time)) s (now (log .entry)) (reply (r .answer)) (r .state) (now (log .exit)) ⌝ }
 {
     transactions::end(s, log, name, pid, epoch, verdict, time)
@@ -68,11 +69,11 @@ pub fn end(
 pub fn tick(s: Coordinator, log: &mut [u8], time: i64) -> Ticked
     ensures { λ r. ⌜ OfCoordinator (call (tickCall time)) s (now (log .entry)) (tickReply (r .answer)) (r .state) (now (log .exit)) ⌝ }
 {
-    coordinator::tick(s, log, time)
+    completion::tick(s, log, time)
 }
 
 // Flush.
-pub fn flush(s: Coordinator, length: usize) -> completion::Answered
+pub fn flush(s: Coordinator, length: usize) -> Answered
     ensures { λ r. ⌜ OfFlush length s (reply (r .answer)) (r .state) ⌝ }
 {
     completion::flush(s, length)
@@ -82,7 +83,7 @@ pub fn flush(s: Coordinator, length: usize) -> completion::Answered
 pub fn order(s: Coordinator, up: u64) -> OrderAnswer
     ensures { λ r. ⌜ OfOrder up s (orderReply r) ⌝ }
 {
-    coordinator::order(s, up)
+    completion::order(s, up)
 }
 
 // Ack.
@@ -93,7 +94,7 @@ pub fn ack(
     pid: i64,
     epoch: i16,
     position: usize,
-) -> completion::Answered
+) -> Answered
     ensures { λ r. ⌜ OfCoordinator (call (ackCall place pid epoch position)) s (now (log .entry)) (reply (r .answer)) (r .state) (now (log .exit)) ⌝ }
 {
     completion::ack(s, log, place, pid, epoch, position)

@@ -1,2 +1,5 @@
--- Laws of the crate completion, for the proofs of its functions.
-mod Made
+-- Laws of the crate completion, a file for each call, for the proofs of its functions.
+mod TickSteps
+mod FlushSteps
+mod OrderSteps
+mod AckSteps

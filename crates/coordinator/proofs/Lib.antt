@@ -1,4 +1,4 @@
--- Laws of the crate coordinator: of each call by its cases; what every call tests and how it appends; and, for the functions' own proofs, what the code makes.
+-- Laws of the crate coordinator: of each call by its cases; what every call tests and how it appends; and what the calls by name have in common.
 pub mod Held
 pub mod OpenCases
 pub mod InitCases
@@ -9,5 +9,5 @@ pub mod FlushCases
 pub mod OrderCases
 pub mod AckCases
 pub mod Laws
-mod Made
+pub mod Named
 pub mod Reserve

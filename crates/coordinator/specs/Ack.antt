@@ -10,6 +10,7 @@ use Rattle.row.specs.Row.{free, isPrepare, outstanding}
 use Rattle.row.specs.Steps.{completed}
 use Rattle.row.specs.declared.Row.{Row}
 use Rattle.table.specs.Table.{rowAt}
+use Rattle.answers.specs.Numbers.{invalidSet, invalidLength, unknownProducer, wrongEpoch, notFlushed, wrongStatus, notJoined}
 use Rattle.answers.specs.Refusals.{Test, refuse, firstRefusal, Decision, unless}
 use Rattle.answers.specs.declared.Answer.{Answer}
 use Rattle.answers.specs.declared.Answer.the-variants.{Done, Refused}
@@ -20,22 +21,22 @@ use Rattle.coordinator.specs.declared.Coordinator.{Coordinator}
 unfoldable pub ackRowTests : ℕ → Row → ℤ → ℤ → ℕ → List Test
 ackRowTests flushed row pid epoch position =
     -- "10 … (Ack: place or pid)"
-    refuse 10 (free row || not (eqZ pid (pos (row .pid)))) ∷
+    refuse unknownProducer (free row || not (eqZ pid (pos (row .pid)))) ∷
     -- "11 epoch differs"
-    refuse 11 (not (eqZ epoch (pos (row .epoch)))) ∷
+    refuse wrongEpoch (not (eqZ epoch (pos (row .epoch)))) ∷
     -- "12 not flushed"
-    refuse 12 (unflushed flushed row) ∷
+    refuse notFlushed (unflushed flushed row) ∷
     -- "status other than 2, 3 is 13"
-    refuse 13 (not (isPrepare (row .status))) ∷
+    refuse wrongStatus (not (isPrepare (row .status))) ∷
     -- "18 position not joined"
-    refuse 18 (not (member (row .joined) position)) ∷
+    refuse notJoined (not (member (row .joined) position)) ∷
     []
 
 unfoldable pub ackTests : Coordinator → ℕ → ℕ → ℤ → ℤ → ℕ → List Test
 ackTests s n place pid epoch position =
-    refuse 8 (not (admits s n)) ∷
+    refuse invalidLength (not (admits s n)) ∷
     -- "3 … or such a position"
-    refuse 3 (not (member (s .catalogue .all) position)) ∷
+    refuse invalidSet (not (member (s .catalogue .all) position)) ∷
     ackRowTests (s .flushed) (rowAt (s .table) place) pid epoch position
 
 -- "the last one outstanding": no other is left

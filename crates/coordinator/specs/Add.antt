@@ -12,6 +12,7 @@ use Rattle.row.specs.Row.{isBegin, isPrepare}
 use Rattle.row.specs.Steps.{begun, widened}
 use Rattle.row.specs.declared.Row.{Row}
 use Rattle.table.specs.Table.{idCount}
+use Rattle.answers.specs.Numbers.{invalidName, invalidSet, invalidLength, unknownProducer, wrongEpoch, notFlushed, busy, noLogRoom}
 use Rattle.answers.specs.Refusals.{Test, refuse, firstRefusal, Decision, unless}
 use Rattle.answers.specs.declared.Answer.{Answer}
 use Rattle.answers.specs.declared.Answer.the-variants.{Done, Refused}
@@ -30,23 +31,23 @@ addRow row set clock = cond (isBegin (row .status)) (widened row set clock) (beg
 unfoldable pub addRowTests : Coordinator → Row → ℤ → ℕ → ℤ → List Test
 addRowTests s row epoch set time =
     -- "11 epoch differs"; "Epoch 32767 is refusal 11."
-    refuse 11 (not (eqZ epoch (pos (row .epoch))) || eqZ epoch (pos epochMax)) ∷
+    refuse wrongEpoch (not (eqZ epoch (pos (row .epoch))) || eqZ epoch (pos epochMax)) ∷
     -- "12 not flushed"
-    refuse 12 (unflushed (s .flushed) row) ∷
+    refuse notFlushed (unflushed (s .flushed) row) ∷
     -- "Status 2, 3: 14."
-    refuse 14 (isPrepare (row .status)) ∷
+    refuse busy (isPrepare (row .status)) ∷
     -- "17: … an Add that appends …"
-    refuse 17 (not (allJoined row set) && logFull s (addRow row set (clockAt s time)) (idCount (s .table))) ∷
+    refuse noLogRoom (not (allJoined row set) && logFull s (addRow row set (clockAt s time)) (idCount (s .table))) ∷
     []
 
 unfoldable pub addTests : Coordinator → ℕ → List ℕ → ℤ → ℤ → ℕ → ℤ → List Test
 addTests s n name pid epoch set time =
-    refuse 8 (not (admits s n)) ∷
-    refuse 1 (not (nameFits name)) ∷
+    refuse invalidLength (not (admits s n)) ∷
+    refuse invalidName (not (nameFits name)) ∷
     -- "3 set empty or outside the catalogue"
-    refuse 3 (eqb set 0 || not (subset set (s .catalogue .all))) ∷
+    refuse invalidSet (eqb set 0 || not (subset set (s .catalogue .all))) ∷
     -- "10 name not held or pid differs"
-    refuse 10 (notHeld s name pid) ∷
+    refuse unknownProducer (notHeld s name pid) ∷
     addRowTests s (rowOf s name) epoch set time
 
 -- the clock goes on whether a record is appended or not

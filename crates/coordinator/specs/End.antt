@@ -11,6 +11,7 @@ use Rattle.record.specs.declared.Status.the-variants.{Empty, Begin, PrepareComm
 use Rattle.row.specs.Row.{isBegin, isPrepare}
 use Rattle.row.specs.Steps.{prepared, prepareOf, verdictOf, ended, raise}
 use Rattle.row.specs.declared.Row.{Row}
+use Rattle.answers.specs.Numbers.{invalidName, invalidVerdict, invalidLength, unknownProducer, wrongEpoch, notFlushed, wrongStatus, busy}
 use Rattle.answers.specs.Refusals.{Test, refuse, firstRefusal, Decision, unless}
 use Rattle.answers.specs.declared.Answer.{Answer}
 use Rattle.answers.specs.declared.Answer.the-variants.{Done, Refused}
@@ -33,23 +34,23 @@ endFits CompleteAbort verdict = eqb verdict (verdictOf CompleteAbort)
 -- the tests of the row that holds the name
 unfoldable pub endRowTests : Coordinator → Row → ℤ → ℕ → List Test
 endRowTests s row epoch verdict =
-    refuse 11 (not (endEpochFits row epoch)) ∷
+    refuse wrongEpoch (not (endEpochFits row epoch)) ∷
     -- "12 not flushed"
-    refuse 12 (unflushed (s .flushed) row) ∷
+    refuse notFlushed (unflushed (s .flushed) row) ∷
     -- "All else: 13."
-    refuse 13 (not (endFits (row .status) verdict)) ∷
+    refuse wrongStatus (not (endFits (row .status) verdict)) ∷
     -- "Status 2 or 3 of that verdict: 14."
-    refuse 14 (isPrepare (row .status)) ∷
+    refuse busy (isPrepare (row .status)) ∷
     []
 
 unfoldable pub endTests : Coordinator → ℕ → List ℕ → ℤ → ℤ → ℕ → List Test
 endTests s n name pid epoch verdict =
-    refuse 8 (not (admits s n)) ∷
-    refuse 1 (not (nameFits name)) ∷
+    refuse invalidLength (not (admits s n)) ∷
+    refuse invalidName (not (nameFits name)) ∷
     -- "4 verdict not 0 or 1"
-    refuse 4 (ltb 1 verdict) ∷
+    refuse invalidVerdict (ltb 1 verdict) ∷
     -- "10 name not held or pid differs"
-    refuse 10 (notHeld s name pid) ∷
+    refuse unknownProducer (notHeld s name pid) ∷
     endRowTests s (rowOf s name) epoch verdict
 
 -- "0 commit, 1 abort. Status 1 prepares. Status 4 or 5 of that verdict: done, nothing appended."

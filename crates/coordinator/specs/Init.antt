@@ -16,6 +16,7 @@ use Rattle.row.specs.Steps.{initialized, prepared, fenced, raise}
 use Rattle.row.specs.declared.Row.{Row}
 use Rattle.answers.specs.Limits.{places}
 use Rattle.table.specs.Table.{placeFor, lowestFree, idCount}
+use Rattle.answers.specs.Numbers.{invalidName, invalidTimeout, invalidLength, notFlushed, busy, tooManyNames, pidsSpent, noLogRoom}
 use Rattle.answers.specs.Refusals.{Test, refuse, firstRefusal, Decision, unless}
 use Rattle.answers.specs.declared.InitAnswer.{InitAnswer}
 use Rattle.answers.specs.declared.InitAnswer.the-variants.{Given, Aborting, Refused}
@@ -41,24 +42,24 @@ idsThen s known = cond known 0 1 + idCount (s .table)
 unfoldable pub initRowTests : Coordinator → List ℕ → Bool → Row → ℤ → ℤ → List Test
 initRowTests s name known row timeout time =
     -- "12 not flushed"
-    refuse 12 (unflushed (s .flushed) row) ∷
+    refuse notFlushed (unflushed (s .flushed) row) ∷
     -- "Status 2, 3: refusal 14."
-    refuse 14 (isPrepare (row .status)) ∷
+    refuse busy (isPrepare (row .status)) ∷
     -- "15 a 33rd name"
-    refuse 15 (not known && not (ltb (lowestFree (s .table)) places)) ∷
+    refuse tooManyNames (not known && not (ltb (lowestFree (s .table)) places)) ∷
     -- "16 pids spent"
-    refuse 16 (not (isBegin (row .status)) && needsPid known row && ltb (s .last) (newPid s)) ∷
+    refuse pidsSpent (not (isBegin (row .status)) && needsPid known row && ltb (s .last) (newPid s)) ∷
     -- "17: Init (outside status 1) …"
-    refuse 17 (not (isBegin (row .status)) && logFull s (initRow s name known row timeout time) (idsThen s known)) ∷
+    refuse noLogRoom (not (isBegin (row .status)) && logFull s (initRow s name known row timeout time) (idsThen s known)) ∷
     []
 
 unfoldable pub initTests : Coordinator → ℕ → List ℕ → ℤ → ℤ → List Test
 initTests s n name timeout time =
-    refuse 8 (not (admits s n)) ∷
+    refuse invalidLength (not (admits s n)) ∷
     -- "1 name"
-    refuse 1 (not (nameFits name)) ∷
+    refuse invalidName (not (nameFits name)) ∷
     -- "2 timeout not 1..900000"
-    refuse 2 (not (inRange (pos 1) (pos timeoutMax) timeout)) ∷
+    refuse invalidTimeout (not (inRange (pos 1) (pos timeoutMax) timeout)) ∷
     initRowTests s (padded nameMax name) (holdsName s name) (rowOf s name) timeout time
 
 -- "answer pid, epoch"

@@ -1,5 +1,6 @@
 -- Definitions of the crate coordinator: its state, and each of its calls.
 pub mod Coordinator
+pub mod Named
 pub mod Open
 pub mod Init
 pub mod Add

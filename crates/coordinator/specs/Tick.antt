@@ -11,6 +11,7 @@ use Rattle.row.specs.Steps.{prepared, fenced, raise}
 use Rattle.row.specs.declared.Row.{Row}
 use Rattle.answers.specs.Limits.{places}
 use Rattle.table.specs.Table.{rowAt}
+use Rattle.answers.specs.Numbers.{invalidLength}
 use Rattle.answers.specs.Refusals.{Test, refuse, firstRefusal, Decision, unless}
 use Rattle.answers.specs.declared.TickAnswer.{TickAnswer}
 use Rattle.answers.specs.declared.TickAnswer.the-variants.{Aborted, NoneDue, Refused}
@@ -30,7 +31,7 @@ unfoldable pub overduePlace : Coordinator → ℕ → ℕ
 overduePlace s clock = firstWhere (overdue (s .flushed) clock) (s .table .rows)
 
 unfoldable pub tickTests : Coordinator → ℕ → List Test
-tickTests s n = refuse 8 (not (admits s n)) ∷ []
+tickTests s n = refuse invalidLength (not (admits s n)) ∷ []
 
 -- "gets PREPARE_ABORT, epoch one higher, answer its place"
 abbrev pub aborted : Coordinator → ℕ → ℕ → Decision TickAnswer Action

@@ -103,7 +103,7 @@ fn own_numbers(results: session::Results) -> [u64; 3]
             place,
             position,
             verdict,
-        } => [place as u64, position as u64, verdict as u64],
+        } => [place as u64, position as u64, verdict],
         session::Results::Payloads(_) => [0, 0, 0],
     }
 }

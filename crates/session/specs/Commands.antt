@@ -7,6 +7,7 @@ use lib.Dec.{eqb, ltb}
 use lib.IntN.{ℤ, pos, negsuc}
 use lib.ListN.{take, drop}
 use Rattle.bits.specs.Bits.{member}
+use Rattle.answers.specs.Numbers.{invalidSet, invalidNumber}
 use Rattle.answers.specs.Answers.{Reply, accepted, refused}
 use Rattle.answers.specs.declared.OrderAnswer.{OrderAnswer}
 use Rattle.answers.specs.declared.OrderAnswer.the-variants.{Order, NoOrder}
@@ -94,7 +95,7 @@ reading position m =
 
 -- "3 … or such a position"
 abbrev pub reads : ℕ → Memory → Outcome
-reads position m = cond (member (m .session .coordinator .catalogue .all) position) (reading position m) (stays (refused 3) m)
+reads position m = cond (member (m .session .coordinator .catalogue .all) position) (reading position m) (stays (refused invalidSet) m)
 
 -- "the next coordinator epoch"; after the greatest there is none, and −1 is refused by the opening (7)
 abbrev pub nextEpoch : ℕ → ℤ
@@ -108,7 +109,7 @@ restarts n m = answering [] (called (openLog catalogueText n (nextEpoch (m .sess
 abbrev pub cuts : ℕ → Memory → Outcome
 cuts kept m =
     let c = m .session .coordinator in
-    cond (ltb (logEnd c) (c .flushed + kept)) (stays (refused 7) m) (restarts (c .flushed + kept) m)
+    cond (ltb (logEnd c) (c .flushed + kept)) (stays (refused invalidNumber) m) (restarts (c .flushed + kept) m)
 
 -- a command of a line; "`flush` takes all"
 unfoldable pub performed : Command → List ℕ → Memory → Outcome

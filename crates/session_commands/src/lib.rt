@@ -56,7 +56,7 @@ fn acknowledge(
     place: usize,
     pid: i64,
     epoch: i16,
-    verdict: u8,
+    verdict: u64,
     position: usize,
 ) -> Performed
     ensures { λ r. ⌜ PerformsOnLog (acknowledges place pid epoch verdict position) s (now (log .entry)) r (now (log .exit)) ⌝ }
@@ -84,7 +84,7 @@ fn deliver(
     place: usize,
     pid: i64,
     epoch: i16,
-    verdict: u8,
+    verdict: u64,
     position: usize,
     coordinator: i32,
 ) -> Performed
@@ -99,7 +99,7 @@ fn deliver(
         place,
         pid,
         epoch,
-        verdict as u64,
+        verdict,
         coordinator,
     );
     let answer = made.answer;
@@ -117,8 +117,15 @@ fn carry(s: Session, log: &mut [u8], words: &mut [u64], up: u64) -> Performed
     ensures { λ r. ⌜ PerformsOnBoth (carried (order (s .coordinator) up)) s (now (log .entry)) (now (words .entry)) r (now (log .exit)) (now (words .exit)) ⌝ }
 {
     let c = s.coordinator;
-    match coordinator::order(c, up) {
-        OrderAnswer::Order(place, pid, epoch, verdict, position, coordinator) => deliver(
+    match completion::order(c, up) {
+        OrderAnswer::Order {
+            place,
+            pid,
+            epoch,
+            verdict,
+            position,
+            coordinator,
+        } => deliver(
             s,
             log,
             words,
@@ -143,7 +150,7 @@ fn read(s: Session, words: &[u64], payloads: &mut [u64], position: usize) -> Per
     let c = s.coordinator;
     if !bits::member(c.catalogue.all, position) {
         return Performed {
-            response: session::refused(3),
+            response: session::refused(answers::INVALID_SET),
             session: s,
         };
     }

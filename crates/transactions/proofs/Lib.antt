@@ -1,5 +1,3 @@
--- Laws of the crate transactions, for its functions' own proofs: what the code makes is what the definitions say.
-mod Made
-mod InitMade
-mod AddMade
-mod EndMade
+-- Laws of the crate transactions, a file for each call, for the proofs of its functions.
+mod AddSteps
+mod EndSteps

@@ -1,8 +1,8 @@
 -- `transactions::add` meets its contract.
 use lib.ListN.{length}
-use Rattle.transactions.specs.Parts.{FoundFor}
-use Rattle.transactions.proofs.Made.{found-for}
-use Rattle.transactions.proofs.AddMade.{add-refuses, add-admitted, add-performs}
+use Rattle.coordinator.specs.Named.{FoundFor}
+use Rattle.coordinator.proofs.Named.{found-for}
+use Rattle.transactions.proofs.AddSteps.{add-refuses, add-admitted, add-performs}
 use borrow.Author.Needs.{needs}
 use Rattle.transactions.proofs.add.Statement.{statement}
 use Rattle.transactions.proofs.add.Tie as tie

@@ -1,6 +1,6 @@
 -- `transactions::add_action` meets its contract.
-use Rattle.transactions.proofs.Made.{clock-is}
-use Rattle.transactions.proofs.AddMade.{add-advances, add-fits, add-appends}
+use Rattle.coordinator.proofs.Named.{clock-is}
+use Rattle.transactions.proofs.AddSteps.{add-advances, add-fits, add-appends}
 use borrow.Author.Needs.{needs}
 use Rattle.transactions.proofs.add_action.Statement.{statement}
 use Rattle.transactions.proofs.add_action.Tie as tie

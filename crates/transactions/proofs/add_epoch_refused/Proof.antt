@@ -1,9 +1,9 @@
 -- `transactions::add_epoch_refused` meets its contract.
-use mir.Syntax.{w64}
+use mir.Syntax.{w16, w64}
 use borrow.Author.Needs.{sfits-of}
 use Rattle.row.specs.Limits.{epochMax}
-use Rattle.transactions.proofs.Made.{widened-equal}
-use Rattle.transactions.proofs.AddMade.{barred-is}
+use Rattle.coordinator.proofs.Held.{compared-wide}
+use Rattle.transactions.proofs.AddSteps.{barred-is}
 use borrow.Author.Needs.{needs}
 use Rattle.transactions.proofs.add_epoch_refused.Statement.{statement}
 use Rattle.transactions.proofs.add_epoch_refused.Tie as tie
@@ -26,7 +26,7 @@ returns c =
     let w = q .before in
     let s = w .before in
     let a = s .args in
-    barred-is (a .epoch) (a .row) (s .fits .epoch) (widened-equal (a .epoch) epochMax (s .fits .epoch) (sfits-of {w = w64} {z = w .wide-i16 .result} (w .wide-i16 .ok)) (w .wide-i16 .ensures) (q .equals .ensures)) (c .same-epoch .ensures)
+    barred-is (a .epoch) (a .row) (s .fits .epoch) (compared-wide w16 w64 (a .epoch) epochMax (s .fits .epoch) (sfits-of {w = w64} {z = w .wide-i16 .result} (w .wide-i16 .ok)) (w .wide-i16 .ensures) (q .equals .ensures)) (c .same-epoch .ensures)
 
 pub add-epoch-refused-spec : {M : Type 1} → statement M
 add-epoch-refused-spec =

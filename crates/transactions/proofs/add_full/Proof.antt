@@ -1,8 +1,8 @@
 -- `transactions::add_full` meets its contract.
 use mathlib.Core.Path.{sym, _∙_}
 use native.Mathlib.Omega.{arith}
-use Rattle.transactions.proofs.Made.{clock-is}
-use Rattle.transactions.proofs.AddMade.{add-full-not, add-full-is}
+use Rattle.coordinator.proofs.Named.{clock-is}
+use Rattle.transactions.proofs.AddSteps.{add-full-not, add-full-is}
 use borrow.Author.Needs.{needs}
 use Rattle.transactions.proofs.add_full.Statement.{statement}
 use Rattle.transactions.proofs.add_full.Tie as tie

@@ -3,9 +3,10 @@ use mathlib.Core.Bool.{not, _||_}
 use lib.IntN.{ℤ, pos}
 use Rattle.numbers.specs.Border.{eqZ}
 use Rattle.row.specs.Limits.{epochMax}
-use Rattle.transactions.specs.Parts.{notHeldAt, addFull}
-use Rattle.transactions.proofs.Made.{passed-on}
-use Rattle.transactions.proofs.AddMade.{add-named, add-tested}
+use Rattle.coordinator.specs.Named.{notHeldAt}
+use Rattle.transactions.specs.Parts.{addFull}
+use Rattle.numbers.proofs.Border.{passed-on}
+use Rattle.transactions.proofs.AddSteps.{add-named, add-tested}
 use borrow.Author.Needs.{needs}
 use Rattle.transactions.proofs.add_refusal.Statement.{statement}
 use Rattle.transactions.proofs.add_refusal.Tie as tie

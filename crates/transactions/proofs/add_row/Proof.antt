@@ -1,6 +1,6 @@
 -- `transactions::add_row` meets its contract.
 use mathlib.Core.Path.{sym, _∙_}
-use Rattle.transactions.proofs.AddMade.{add-row-widened, add-row-begun}
+use Rattle.transactions.proofs.AddSteps.{add-row-widened, add-row-begun}
 use borrow.Author.Needs.{needs}
 use Rattle.transactions.proofs.add_row.Statement.{statement}
 use Rattle.transactions.proofs.add_row.Tie as tie

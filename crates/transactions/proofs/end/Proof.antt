@@ -1,8 +1,8 @@
 -- `transactions::end` meets its contract.
 use lib.ListN.{length}
-use Rattle.transactions.specs.Parts.{FoundFor}
-use Rattle.transactions.proofs.Made.{found-for}
-use Rattle.transactions.proofs.EndMade.{end-refuses, end-admitted, end-performs}
+use Rattle.coordinator.specs.Named.{FoundFor}
+use Rattle.coordinator.proofs.Named.{found-for}
+use Rattle.transactions.proofs.EndSteps.{end-refuses, end-admitted, end-performs}
 use borrow.Author.Needs.{needs}
 use Rattle.transactions.proofs.end.Statement.{statement}
 use Rattle.transactions.proofs.end.Tie as tie

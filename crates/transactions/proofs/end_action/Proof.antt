@@ -3,8 +3,8 @@ use borrow.Author.Tests.{not-true, not-false}
 use Rattle.row.specs.Row.{isBegin}
 use Rattle.row.specs.declared.Row.{Row}
 use Rattle.coordinator.proofs.Laws.{fits-begun}
-use Rattle.transactions.proofs.Made.{clock-is, tested-at}
-use Rattle.transactions.proofs.EndMade.{end-advances, end-appends}
+use Rattle.coordinator.proofs.Named.{clock-is, tested-at}
+use Rattle.transactions.proofs.EndSteps.{end-advances, end-appends}
 use borrow.Author.Needs.{needs}
 use Rattle.transactions.proofs.end_action.Statement.{statement}
 use Rattle.transactions.proofs.end_action.Tie as tie

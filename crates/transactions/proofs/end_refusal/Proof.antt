@@ -1,9 +1,9 @@
 -- `transactions::end_refusal` meets its contract.
 use lib.IntN.{ℤ, pos}
 use Rattle.numbers.specs.Border.{eqZ}
-use Rattle.transactions.specs.Parts.{notHeldAt}
-use Rattle.transactions.proofs.Made.{passed-on}
-use Rattle.transactions.proofs.EndMade.{end-named, end-tested}
+use Rattle.coordinator.specs.Named.{notHeldAt}
+use Rattle.numbers.proofs.Border.{passed-on}
+use Rattle.transactions.proofs.EndSteps.{end-named, end-tested}
 use borrow.Author.Needs.{needs}
 use Rattle.transactions.proofs.end_refusal.Statement.{statement}
 use Rattle.transactions.proofs.end_refusal.Tie as tie

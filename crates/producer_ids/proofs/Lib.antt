@@ -1,0 +1,2 @@
+-- Laws of the crate producer_ids, for the proofs of its functions.
+mod InitSteps

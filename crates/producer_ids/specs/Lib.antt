@@ -1,0 +1,2 @@
+-- Definitions of the crate producer_ids.
+pub mod Parts

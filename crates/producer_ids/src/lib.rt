@@ -1,0 +1,188 @@
+// Init: a producer takes a name and gets its pid and epoch.
+use answers::InitAnswer;
+use coordinator::Coordinator;
+use coordinator::Initialized;
+use row::Row;
+use table::Held;
+ghost use mathlib.Core.Path.{_≡_};
+ghost use mathlib.Core.Bool.{true, cond};
+ghost use lib.Dec.{ltb};
+ghost use Prim.Native.Nat.{_+_, _≤_};
+ghost use lib.IntN.{ℤ};
+ghost use lib.ListN.{length};
+ghost use mir.Syntax.{w16, w64};
+ghost use Rattle.numbers.specs.Border.{signedOf};
+ghost use Rattle.numbers.specs.Padded.{padded};
+ghost use Rattle.record.specs.Limits.{nameMax};
+ghost use Rattle.record.specs.Record.{nameFits};
+ghost use Rattle.answers.specs.Limits.{places};
+ghost use Rattle.answers.specs.Refusals.{firstRefusal};
+ghost use Rattle.answers.specs.declared.InitAnswer.the-variants.{Given};
+ghost use Rattle.table.specs.Table.{lowestFree, idCount, reserved};
+ghost use Rattle.coordinator.specs.Coordinator.{newPid, Performed};
+ghost use Rattle.coordinator.specs.Named.{FoundFor};
+ghost use Rattle.coordinator.specs.Init.{needsPid, initRow, initTests, init};
+ghost use Rattle.producer_ids.specs.Parts.{initRowWith};
+
+// Whether Init gives a new pid.
+fn needs_pid(known: bool, row: Row) -> bool
+    ensures { λ r. ⌜ r ≡ needsPid known row ⌝ }
+{
+    !known | (row::EPOCH_LAST <= row.epoch)
+}
+
+// The lowest pid that was given to no producer.
+fn new_pid(s: Coordinator) -> u64
+    ensures { λ r. ⌜ r ≡ newPid s ⌝ }
+{
+    let table = s.table;
+    numbers::greater(s.first, table.next)
+}
+
+// The record of Init: a new pid, or the next epoch of the same.
+fn init_row_with(
+    name: [u8; record::NAME_MAX],
+    known: bool,
+    row: Row,
+    pid: u64,
+    timeout: i32,
+    clock: u64,
+) -> Row
+    ensures { λ r. ⌜ r ≡ initRowWith name known row pid timeout clock ⌝ }
+{
+    let timeout = numbers::natural_i32(timeout);
+    if needs_pid(known, row) {
+        return row::initialized(name, pid, 0, timeout, clock);
+    }
+    row::initialized(name, row.pid, row.epoch + 1, timeout, clock)
+}
+
+// The record of Init for a name whose place and row were found.
+fn init_row(
+    s: Coordinator,
+    name: [u8; record::NAME_MAX],
+    held: Held,
+    timeout: i32,
+    time: i64,
+) -> Row
+    ensures { λ r. ⌜ r ≡ initRow s name (ltb (held .place) places) (held .row) timeout time ⌝ }
+{
+    let row = held.row;
+    let clock = numbers::later(s.clock, time);
+    init_row_with(
+        name,
+        held.place < answers::PLACES,
+        row,
+        new_pid(s),
+        timeout,
+        clock,
+    )
+}
+
+// How many ids are held, of those counted, once the name of a place that was found is.
+fn ids_then(ids: usize, place: usize) -> usize
+    requires { ⌜ ids ≤ places ⌝ }
+    ensures { λ r. ⌜ (r ≡ cond (ltb place places) 0 1 + ids) × (r ≤ places + 1) ⌝ }
+{
+    if place < answers::PLACES {
+        return ids;
+    }
+    ids + 1
+}
+
+// The place for a name whose place was found: this, or the free one.
+fn place_for(place: usize, free: usize) -> usize
+    ensures { λ r. ⌜ r ≡ cond (ltb place places) place free ⌝ }
+{
+    if place < answers::PLACES {
+        return place;
+    }
+    free
+}
+
+// The number of the refusal of Init with this new record, 0 where there is none. Only for `init`, which has found the place of the name and counted the rows.
+fn init_refusal(
+    s: Coordinator,
+    n: usize,
+    reserve: usize,
+    ids: usize,
+    free: usize,
+    name: &[u8],
+    held: Held,
+    new: Row,
+    timeout: i32,
+) -> u8
+    requires { ⌜ (reserve ≡ reserved (s .table)) × ((ids ≡ idCount (s .table)) × (ids ≤ places)) × (free ≡ lowestFree (s .table)) × FoundFor s (now name) held ⌝ }
+    ensures { λ r. ⌜ ((time : ℤ) → (nameFits (now (name .entry)) ≡ true → new ≡ initRow s (padded nameMax (now (name .entry))) (ltb (held .place) places) (held .row) timeout time) → r ≡ firstRefusal (initTests s n (now (name .entry)) timeout time)) ⌝ }
+{
+    let first = coordinator::name_refusal(s, n, reserve, name);
+    if first != 0 {
+        return first;
+    }
+    let row = held.row;
+    let status = row.status;
+    let begin = row::is_begin(status);
+    let known = held.place < answers::PLACES;
+    let spent = s.last < new_pid(s);
+    let full = coordinator::log_full(s, new, ids_then(ids, held.place));
+    let r = answers::or_refuse(0, answers::INVALID_TIMEOUT, !record::timeout_fits(timeout));
+    let r = answers::or_refuse(r, answers::NOT_FLUSHED, s.flushed < row.end);
+    let r = answers::or_refuse(r, answers::BUSY, row::is_prepare(status));
+    let r = answers::or_refuse(
+        r,
+        answers::TOO_MANY_NAMES,
+        !(place_for(held.place, free) < answers::PLACES),
+    );
+    let r = answers::or_refuse(
+        r,
+        answers::PIDS_SPENT,
+        !begin & needs_pid(known, row) & spent,
+    );
+    answers::or_refuse(r, answers::NO_LOG_ROOM, !begin & full)
+}
+
+// Init that was not refused: its answer is the pid and the epoch of the new record.
+fn given(state: Coordinator, new: Row) -> Initialized
+    ensures { λ r. ⌜ (r .answer ≡ Given (signedOf w64 (new .pid)) (signedOf w16 (new .epoch))) × (r .state ≡ state) ⌝ }
+{
+    let pid = numbers::signed_i64(new.pid);
+    let epoch = numbers::signed_i16(new.epoch as u64);
+    Initialized {
+        answer: InitAnswer::Given(pid, epoch),
+        state,
+    }
+}
+
+// Init: a producer takes a name, with a new epoch or a new pid.
+pub fn init(s: Coordinator, log: &mut [u8], name: &[u8], timeout: i32, time: i64) -> Initialized
+    ensures { λ r. ⌜ Performed (init s (length (now (log .entry))) (now (name .entry)) timeout time) s (now (log .entry)) (r .answer) (r .state) (now (log .exit)) ⌝ }
+{
+    let table = s.table;
+    let reserve = table::reserved(table);
+    let ids = table::id_count(table);
+    let free = table::lowest_free(table);
+    let own = record::padded_name(name);
+    let held = table::find(table, own);
+    let new = init_row(s, own, held, timeout, time);
+    let refusal = init_refusal(s, log.len(), reserve, ids, free, name, held, new, timeout);
+    if refusal != 0 {
+        return Initialized {
+            answer: InitAnswer::Refused(refusal),
+            state: s,
+        };
+    }
+    let catalogue = s.catalogue;
+    let row = held.row;
+    let status = row.status;
+    if row::is_begin(status) {
+        let fenced = coordinator::fence(row, numbers::later(s.clock, time));
+        let end = coordinator::write_row(catalogue, fenced, log, table.end);
+        return Initialized {
+            answer: InitAnswer::Aborting,
+            state: coordinator::appended(s, held.place, fenced, end),
+        };
+    }
+    let place = place_for(held.place, free);
+    let end = coordinator::write_row(catalogue, new, log, table.end);
+    given(coordinator::appended(s, place, new, end), new)
+}
