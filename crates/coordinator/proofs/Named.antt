@@ -87,6 +87,11 @@ module _ {Answer : Type 0} (k : ℕ) (refused : ℕ → Answer) (d : Decision An
       → Performed (unless k refused keep d) s log answer state left
   performed-accepted z p = rw (unless-accepted k refused keep d z) p
 
+-- the answer and the state as a call gave them
+pub performed-as : {Answer : Type 0} (d : Decision Answer Action) (s : Coordinator) (log : List ℕ) {left : List ℕ} {answer given : Answer} {state made : Coordinator}
+    → (answer ≡ given) × (state ≡ made) → Performed d s log given made left → Performed d s log answer state left
+performed-as d s log e p = rw (e .0, e .1) p
+
 -- ---- the row of the place that was found, by a test of it
 
 pub tested-at : {A : Type 0} (test : Row → A) {row found : Row} → row ≡ found → {b : A} → b ≡ test row → {y : A} → b ≡ y → test found ≡ y

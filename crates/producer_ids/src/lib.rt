@@ -121,23 +121,19 @@ fn init_refusal(
     }
     let row = held.row;
     let status = row.status;
+    let timed = record::timeout_fits(timeout);
+    let unflushed = s.flushed < row.end;
+    let prepare = row::is_prepare(status);
     let begin = row::is_begin(status);
-    let known = held.place < answers::PLACES;
+    let place = place_for(held.place, free);
     let spent = s.last < new_pid(s);
+    let needed = needs_pid(held.place < answers::PLACES, row);
     let full = coordinator::log_full(s, new, ids_then(ids, held.place));
-    let r = answers::or_refuse(0, answers::INVALID_TIMEOUT, !record::timeout_fits(timeout));
-    let r = answers::or_refuse(r, answers::NOT_FLUSHED, s.flushed < row.end);
-    let r = answers::or_refuse(r, answers::BUSY, row::is_prepare(status));
-    let r = answers::or_refuse(
-        r,
-        answers::TOO_MANY_NAMES,
-        !(place_for(held.place, free) < answers::PLACES),
-    );
-    let r = answers::or_refuse(
-        r,
-        answers::PIDS_SPENT,
-        !begin & needs_pid(known, row) & spent,
-    );
+    let r = answers::or_refuse(0, answers::INVALID_TIMEOUT, !timed);
+    let r = answers::or_refuse(r, answers::NOT_FLUSHED, unflushed);
+    let r = answers::or_refuse(r, answers::BUSY, prepare);
+    let r = answers::or_refuse(r, answers::TOO_MANY_NAMES, !(place < answers::PLACES));
+    let r = answers::or_refuse(r, answers::PIDS_SPENT, !begin & needed & spent);
     answers::or_refuse(r, answers::NO_LOG_ROOM, !begin & full)
 }
 

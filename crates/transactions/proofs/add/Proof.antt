@@ -1,7 +1,8 @@
 -- `transactions::add` meets its contract.
 use lib.ListN.{length}
 use Rattle.coordinator.specs.Named.{FoundFor}
-use Rattle.coordinator.proofs.Named.{found-for}
+use Rattle.coordinator.specs.Add.{add}
+use Rattle.coordinator.proofs.Named.{found-for, performed-as}
 use Rattle.transactions.proofs.AddSteps.{add-refuses, add-admitted, add-performs}
 use borrow.Author.Needs.{needs}
 use Rattle.transactions.proofs.add.Statement.{statement}
@@ -30,12 +31,17 @@ find-requires c κs = search needs
 add-refusal-requires : tie.Need-add-refusal-requires
 add-refusal-requires c κs = let i = c .before .before in (i .before .reserved .ensures, i .id-count .ensures, held-is c)
 
+refused-requires : tie.Need-refused-requires
+refused-requires c κs = search needs
+
 returns : tie.Need-returns
 returns c =
-    let r = c .before in
+    let t = c .before in
+    let r = t .before in
     let s = start r in
     let a = s .args in
-    add-refuses (a .s) (length (a .log .now)) (a .name .now) (a .pid) (a .epoch) (a .set) (a .time) (s .fits .pid) (s .fits .epoch) (s .fits .time) (r .add-refusal .ensures) (c .if1 .taken) (a .log .now)
+    performed-as (add (a .s) (length (a .log .now)) (a .name .now) (a .pid) (a .epoch) (a .set) (a .time)) (a .s) (a .log .now) (c .refused .ensures)
+    (add-refuses (a .s) (length (a .log .now)) (a .name .now) (a .pid) (a .epoch) (a .set) (a .time) (s .fits .pid) (s .fits .epoch) (s .fits .time) (r .add-refusal .ensures) (t .if1 .taken) (a .log .now))
 
 add-action-requires : tie.Need-add-action-requires
 add-action-requires c κs =
@@ -45,17 +51,21 @@ add-action-requires c κs =
     let a = s .args in
     add-admitted (a .s) (length (a .log .now)) (a .name .now) (a .pid) (a .epoch) (a .set) (a .time) (s .fits .pid) (s .fits .epoch) (s .fits .time) (r .add-refusal .ensures) (x .if1 .left) (held-is (r .before))
 
+done-requires : tie.Need-done-requires
+done-requires c κs = search needs
+
 same-length : tie.Need-same-length
 same-length c = search needs
 
 returns-2 : tie.Need-returns-2
 returns-2 c =
-    let d = c .before .before in
+    let d = c .before .before .before in
     let x = d .before .before in
     let r = x .before in
     let s = start r in
     let a = s .args in
-    add-performs (a .s) (length (a .log .now)) (a .name .now) (a .pid) (a .epoch) (a .set) (a .time) (s .fits .pid) (s .fits .epoch) (s .fits .time) (r .add-refusal .ensures) (x .if1 .left) (held-is (r .before)) (a .log .now) (d .add-action .ensures)
+    performed-as (add (a .s) (length (a .log .now)) (a .name .now) (a .pid) (a .epoch) (a .set) (a .time)) (a .s) (a .log .now) (c .done .ensures)
+    (add-performs (a .s) (length (a .log .now)) (a .name .now) (a .pid) (a .epoch) (a .set) (a .time) (s .fits .pid) (s .fits .epoch) (s .fits .time) (r .add-refusal .ensures) (x .if1 .left) (held-is (r .before)) (a .log .now) (d .add-action .ensures))
 
 pub add-spec : {M : Type 1} → statement M
 add-spec =
@@ -66,7 +76,9 @@ add-spec =
     padded-name-requires
     find-requires
     add-refusal-requires
+    refused-requires
     returns
     add-action-requires
+    done-requires
     same-length
     returns-2)

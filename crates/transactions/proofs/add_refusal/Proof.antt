@@ -2,17 +2,17 @@
 use mathlib.Core.Bool.{not, _||_}
 use lib.IntN.{ℤ, pos}
 use Rattle.numbers.specs.Border.{eqZ}
+use Rattle.numbers.proofs.Border.{passed-on}
 use Rattle.row.specs.Limits.{epochMax}
 use Rattle.coordinator.specs.Named.{notHeldAt}
 use Rattle.transactions.specs.Parts.{addFull}
-use Rattle.numbers.proofs.Border.{passed-on}
 use Rattle.transactions.proofs.AddSteps.{add-named, add-tested}
 use borrow.Author.Needs.{needs}
 use Rattle.transactions.proofs.add_refusal.Statement.{statement}
 use Rattle.transactions.proofs.add_refusal.Tie as tie
 
 name-refusal-requires : tie.Need-name-refusal-requires
-name-refusal-requires c κs = c .before .pre .0
+name-refusal-requires c κs = search needs
 
 returns : tie.Need-returns
 returns c =
@@ -22,17 +22,23 @@ returns c =
 subset-requires : tie.Need-subset-requires
 subset-requires c κs = search needs
 
-or-refuse-requires : tie.Need-or-refuse-requires
-or-refuse-requires c κs = search needs
-
 not-held-requires : tie.Need-not-held-requires
 not-held-requires c κs = search needs
 
-or-refuse-requires-2 : tie.Need-or-refuse-requires-2
-or-refuse-requires-2 c κs = search needs
-
 add-epoch-refused-requires : tie.Need-add-epoch-refused-requires
 add-epoch-refused-requires c κs = search needs
+
+is-prepare-requires : tie.Need-is-prepare-requires
+is-prepare-requires c κs = search needs
+
+add-full-requires : tie.Need-add-full-requires
+add-full-requires c κs = search needs
+
+or-refuse-requires : tie.Need-or-refuse-requires
+or-refuse-requires c κs = search needs
+
+or-refuse-requires-2 : tie.Need-or-refuse-requires-2
+or-refuse-requires-2 c κs = search needs
 
 or-refuse-requires-3 : tie.Need-or-refuse-requires-3
 or-refuse-requires-3 c κs = search needs
@@ -40,33 +46,24 @@ or-refuse-requires-3 c κs = search needs
 or-refuse-requires-4 : tie.Need-or-refuse-requires-4
 or-refuse-requires-4 c κs = search needs
 
-is-prepare-requires : tie.Need-is-prepare-requires
-is-prepare-requires c κs = search needs
-
 or-refuse-requires-5 : tie.Need-or-refuse-requires-5
 or-refuse-requires-5 c κs = search needs
-
-add-full-requires : tie.Need-add-full-requires
-add-full-requires c κs =
-    let o4 = c .before .before in
-    let o1 = o4 .before .before .before .before .before .before .before in
-    o1 .before .before .before .before .before .before .before .pre .1
 
 or-refuse-requires-6 : tie.Need-or-refuse-requires-6
 or-refuse-requires-6 c κs = search needs
 
 returns-2 : tie.Need-returns-2
 returns-2 c =
-    let f = c .before in
-    let o5 = f .before in
-    let p = o5 .before in
-    let o4 = p .before in
-    let o3 = o4 .before .before .before in
-    let e = o3 .before in
-    let o2 = e .before in
-    let h = o2 .before in
-    let o1 = h .before in
-    let l = o1 .before in
+    let o5 = c .before in
+    let o4 = o5 .before in
+    let o3 = o4 .before in
+    let o2 = o3 .before in
+    let o1 = o2 .before in
+    let f = o1 .before in
+    let p = f .before in
+    let e = p .before .before .before in
+    let h = e .before in
+    let l = h .before in
     let x = l .before .before .before in
     let n = x .before in
     let s = n .before .before in
@@ -86,14 +83,14 @@ add-refusal-spec =
     name-refusal-requires
     returns
     subset-requires
-    or-refuse-requires
     not-held-requires
-    or-refuse-requires-2
     add-epoch-refused-requires
+    is-prepare-requires
+    add-full-requires
+    or-refuse-requires
+    or-refuse-requires-2
     or-refuse-requires-3
     or-refuse-requires-4
-    is-prepare-requires
     or-refuse-requires-5
-    add-full-requires
     or-refuse-requires-6
     returns-2)

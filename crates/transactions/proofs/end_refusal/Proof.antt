@@ -1,32 +1,38 @@
 -- `transactions::end_refusal` meets its contract.
 use lib.IntN.{ℤ, pos}
 use Rattle.numbers.specs.Border.{eqZ}
-use Rattle.coordinator.specs.Named.{notHeldAt}
 use Rattle.numbers.proofs.Border.{passed-on}
+use Rattle.coordinator.specs.Named.{notHeldAt}
 use Rattle.transactions.proofs.EndSteps.{end-named, end-tested}
 use borrow.Author.Needs.{needs}
 use Rattle.transactions.proofs.end_refusal.Statement.{statement}
 use Rattle.transactions.proofs.end_refusal.Tie as tie
 
 name-refusal-requires : tie.Need-name-refusal-requires
-name-refusal-requires c κs = c .before .pre .0
+name-refusal-requires c κs = search needs
 
 returns : tie.Need-returns
 returns c =
     let a = c .before .before .before .args in
     end-named (a .s) (a .n) (a .name .now) (a .pid) (a .epoch) (a .verdict) (c .before .name-refusal .ensures) (c .if1 .taken)
 
-or-refuse-requires : tie.Need-or-refuse-requires
-or-refuse-requires c κs = search needs
-
 not-held-requires : tie.Need-not-held-requires
 not-held-requires c κs = search needs
 
-or-refuse-requires-2 : tie.Need-or-refuse-requires-2
-or-refuse-requires-2 c κs = search needs
-
 same-epoch-requires : tie.Need-same-epoch-requires
 same-epoch-requires c κs = search needs
+
+end-fits-requires : tie.Need-end-fits-requires
+end-fits-requires c κs = search needs
+
+is-prepare-requires : tie.Need-is-prepare-requires
+is-prepare-requires c κs = search needs
+
+or-refuse-requires : tie.Need-or-refuse-requires
+or-refuse-requires c κs = search needs
+
+or-refuse-requires-2 : tie.Need-or-refuse-requires-2
+or-refuse-requires-2 c κs = search needs
 
 or-refuse-requires-3 : tie.Need-or-refuse-requires-3
 or-refuse-requires-3 c κs = search needs
@@ -34,30 +40,24 @@ or-refuse-requires-3 c κs = search needs
 or-refuse-requires-4 : tie.Need-or-refuse-requires-4
 or-refuse-requires-4 c κs = search needs
 
-end-fits-requires : tie.Need-end-fits-requires
-end-fits-requires c κs = search needs
-
 or-refuse-requires-5 : tie.Need-or-refuse-requires-5
 or-refuse-requires-5 c κs = search needs
-
-is-prepare-requires : tie.Need-is-prepare-requires
-is-prepare-requires c κs = search needs
 
 or-refuse-requires-6 : tie.Need-or-refuse-requires-6
 or-refuse-requires-6 c κs = search needs
 
 returns-2 : tie.Need-returns-2
 returns-2 c =
-    let p = c .before in
-    let o5 = p .before in
-    let f = o5 .before in
-    let o4 = f .before in
-    let o3 = o4 .before .before .before in
-    let e = o3 .before in
-    let o2 = e .before in
-    let h = o2 .before in
-    let o1 = h .before in
-    let x = o1 .before .before in
+    let o5 = c .before in
+    let o4 = o5 .before in
+    let o3 = o4 .before in
+    let o2 = o3 .before in
+    let o1 = o2 .before in
+    let p = o1 .before in
+    let f = p .before in
+    let e = f .before .before .before in
+    let h = e .before in
+    let x = h .before .before in
     let n = x .before in
     let s = n .before .before in
     let a = s .args in
@@ -75,14 +75,14 @@ end-refusal-spec =
     (tie.spec
     name-refusal-requires
     returns
-    or-refuse-requires
     not-held-requires
-    or-refuse-requires-2
     same-epoch-requires
+    end-fits-requires
+    is-prepare-requires
+    or-refuse-requires
+    or-refuse-requires-2
     or-refuse-requires-3
     or-refuse-requires-4
-    end-fits-requires
     or-refuse-requires-5
-    is-prepare-requires
     or-refuse-requires-6
     returns-2)
