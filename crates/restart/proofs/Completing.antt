@@ -47,19 +47,19 @@ use Rattle.runs.specs.Demand3.{Completes, CarryingAccepted}
 use Rattle.runs.proofs.Run.{run-append}
 use Rattle.runs.proofs.Cases.{withOrder, while-up}
 use Rattle.runs.proofs.Admitted.{step-own}
-use Rattle.restart.proofs.Lists.{In, found-with, find-in, either}
-use Rattle.restart.proofs.Records.{come-record, After, latest, completed as isOver, after-prepare}
-use Rattle.restart.proofs.Invariant.{UnderWay, CarryingSide, Invariant}
-use Rattle.restart.proofs.Good.{log-of, acks-of}
-use Rattle.restart.proofs.Live.{live-ready, live-latest, live-stands, live-holds}
-use Rattle.restart.proofs.Settled.{proper}
-use Rattle.restart.proofs.Orders.{prepare-held}
-use Rattle.restart.proofs.Steps.{step-good, Reached, run-reached, always}
-use Rattle.restart.proofs.Holds.{carrying-accepted}
-use Rattle.restart.proofs.Grown.{Firm, firm-grown, flushed-firm, told-grown}
-use Rattle.restart.specs.Told.{Told}
-use Rattle.restart.proofs.Acknowledges.{ack-passes, row-joins, joined-small, position-below}
-use Rattle.restart.proofs.Delivers.{place-below}
+use Rattle.protocol.specs.HistoryInvariant.{Told}
+use Rattle.protocol.proofs.Lists.{In, found-with, find-in, either}
+use Rattle.protocol.proofs.Records.{come-record, After, latest, completed as isOver, after-prepare}
+use Rattle.protocol.proofs.Extends.{Firm, firm-grown, flushed-firm, told-grown}
+use Rattle.agreement.proofs.Invariant.{UnderWay, CarryingSide, Invariant}
+use Rattle.agreement.proofs.FlushedFirst.{proper}
+use Rattle.agreement.proofs.LiveTable.{live-ready, live-latest, live-stands, live-holds}
+use Rattle.agreement.proofs.Preserves.{log-of, acks-of}
+use Rattle.agreement.proofs.Orders.{prepare-held}
+use Rattle.agreement.proofs.Delivers.{place-below}
+use Rattle.agreement.proofs.Acknowledges.{ack-passes, row-joins, joined-small, position-below}
+use Rattle.agreement.proofs.Steps.{step-good, Reached, run-reached, always}
+use Rattle.restart.proofs.HoldsAt.{carrying-accepted}
 
 -- ---- sums
 

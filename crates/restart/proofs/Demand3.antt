@@ -23,18 +23,18 @@ use Rattle.runs.specs.World.{Phase, up, down, World, catalogueOf, start, Item, 
 use Rattle.runs.specs.Demand3.{Keeps, Kept, Undisturbed, CompletesInTime, Promised, Demand3}
 use Rattle.runs.proofs.Admitted.{step-own}
 use Rattle.runs.proofs.Epochs.{Epochs, start-epochs, run-epochs}
-use Rattle.restart.specs.Told.{Told}
-use Rattle.restart.proofs.Lists.{In, found-is, in-each, each-filter, either}
-use Rattle.restart.proofs.Records.{come-record, latest-last}
-use Rattle.restart.proofs.Telling.{prepare-idle}
-use Rattle.restart.proofs.Grown.{Firm, firm-grown, flushed-firm, kept-stands, kept-next, told-grown}
-use Rattle.restart.proofs.Invariant.{Invariant}
-use Rattle.restart.proofs.Live.{live-latest}
-use Rattle.restart.proofs.Good.{log-of, acks-of}
-use Rattle.restart.proofs.Steps.{step-good, Reached, run-reached, always}
-use Rattle.restart.proofs.Holds.{holds-at, pending-latest}
-use Rattle.restart.proofs.Tally.{count-part, leftOf, Tally, over, waits}
-use Rattle.restart.proofs.Counted.{step-counts}
+use Rattle.protocol.specs.HistoryInvariant.{Told}
+use Rattle.protocol.proofs.Lists.{In, found-is, in-each, each-filter, either}
+use Rattle.protocol.proofs.Records.{come-record, latest-last}
+use Rattle.protocol.proofs.NextEvent.{prepare-idle}
+use Rattle.protocol.proofs.Extends.{Firm, firm-grown, flushed-firm, kept-stands, kept-next, told-grown}
+use Rattle.agreement.proofs.Invariant.{Invariant}
+use Rattle.agreement.proofs.LiveTable.{live-latest}
+use Rattle.agreement.proofs.Preserves.{log-of, acks-of}
+use Rattle.agreement.proofs.Steps.{step-good, Reached, run-reached, always}
+use Rattle.restart.proofs.HoldsAt.{holds-at, pending-latest}
+use Rattle.restart.proofs.OrdersNeeded.{count-part, leftOf, Tally, over, waits}
+use Rattle.restart.proofs.OrdersCounted.{step-counts}
 
 -- ---- kept
 

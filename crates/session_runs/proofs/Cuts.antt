@@ -22,9 +22,9 @@ use Rattle.server.specs.Lines.{catalogueText}
 use Rattle.writer.specs.Writer.{openingTyped}
 use Rattle.runs.specs.History.{History, logCut, logOpened}
 use Rattle.runs.specs.World.{Leader, Carrying, nothing, Item, cut, reopen, run, down}
-use Rattle.restart.proofs.Invariant.{Invariant}
-use Rattle.restart.proofs.Steps.{run-reached}
-use Rattle.restart.proofs.LogSteps.{down-restarts}
+use Rattle.agreement.proofs.Invariant.{Invariant}
+use Rattle.agreement.proofs.LogSteps.{down-restarts}
+use Rattle.agreement.proofs.Steps.{run-reached}
 use Rattle.session.specs.Limits.{firstPid, lastPid, lastEpoch}
 use Rattle.session.specs.Memory.{Memory, memory}
 use Rattle.session.specs.Commands.{stays, nextEpoch, restarts, cuts}

@@ -1,0 +1,217 @@
+-- Acknowledgements and open entries: what is acknowledged is closed, and a prepare waits for some partition.
+use Prim.Native.Nat.{ℕ, _+_, _<_, _^_}
+use mathlib.Core.Path.{_≡_, refl, sym, ap, subst, _∙_}
+use mathlib.Core.Logic.{_≢_}
+use mathlib.Core.Bool.{true, false, true≢false}
+use mathlib.Core.List.{[], _∷_}
+use mathlib.Core.Option.{some}
+use native.Mathlib.Decide.{ℕ-discrete}
+use native.Mathlib.Omega.{arith}
+use Prim.Native.Nat.{_-_}
+use lib.Bits.{and-le-l}
+use lib.Dec.{eqb}
+use lib.ListN.{length}
+use borrow.Author.Tests.{eqb-true, eqb-false}
+use Rattle.bits.specs.Bits.{member, insert, difference, count, lowest}
+use Rattle.bits.proofs.Laws.{member-is, member-is-not, member-true, member-false, bit-of-none, lowest-member, left-is, count-left, count-zero, count-none, insert-other, insert-below}
+use Rattle.catalogue.specs.declared.Catalogue.{Catalogue}
+use Rattle.record.specs.Record.{idle, wellFormed}
+use Rattle.record.specs.declared.Record.{Record}
+use Rattle.record.proofs.Bounds.{some-joined, well-formed-parts}
+use Rattle.row.specs.Row.{isPrepare, outstanding, recordOf, withEnd, withAcknowledged}
+use Rattle.row.specs.declared.Row.{Row}
+use Rattle.table.specs.Table.{emptyTable, rowAt, apply, withRow}
+use Rattle.table.proofs.Laws.{apply-same, apply-other, with-same, with-other}
+use Rattle.log_reader.specs.Records.{allCome}
+use Rattle.log_reader.proofs.RecordLaws.{come-newest}
+use Rattle.coordinator.specs.Coordinator.{logEnd, rowFrame, appended, acknowledged}
+use Rattle.coordinator.specs.declared.Coordinator.{Coordinator}
+use Rattle.runs.specs.History.{Order, Produced, Event, recordAppended, markerWritten, entryWritten, History, producedIn, collectWithBefore, Logged, recordsOf, contents, endOf, flushedOf}
+use Rattle.protocol.specs.RecordsOfName.{latestIn}
+use Rattle.protocol.specs.Entries.{Entry, entriesOf, kindIn, underOf}
+use Rattle.protocol.specs.HistoryInvariant.{Told}
+use Rattle.protocol.specs.NextEvent.{Appendable}
+use Rattle.protocol.proofs.Lists.{each-in, in-each, either}
+use Rattle.protocol.proofs.Records.{ending-all}
+use Rattle.protocol.proofs.Entries.{before-quiet, entry-before, under-next, first-open}
+use Rattle.protocol.proofs.NextEvent.{under-each, prepare-idle}
+use Rattle.agreement.proofs.Invariant.{placeIn, NoneOpen, AcksAgree}
+use Rattle.agreement.proofs.Tables.{place-kept}
+use Rattle.agreement.proofs.Rows.{open-at}
+
+-- ---- nothing open, under an event
+
+pub member-nothing : (x : ℕ) → member 0 x ≡ true → ⊥
+member-nothing x m = true≢false (sym m ∙ member-is-not 0 x (bit-of-none x))
+
+pub none-quiet : (c : Catalogue) (h : History) (e : Event) → producedIn e ≡ [] → ((position pid : ℕ) → kindIn position pid e ≡ 0) → recordsOf (e ∷ h) ≡ recordsOf h → (x k : ℕ)
+    → NoneOpen c h (recordsOf h) x k → NoneOpen c (e ∷ h) (recordsOf (e ∷ h)) x k
+none-quiet c h e p q r x k n =
+    rw (r, before-quiet producedIn e h p) (under-each h e q (λ (m : ℕ) (d : Entry). d .what .position ≡ x → m ≡ 0 → placeIn c (recordsOf h) (d .what .name) ≡ k → ⊥) n)
+
+pub none-marked : (c : Catalogue) (h : History) (o : Order) (x k : ℕ) → NoneOpen c h (recordsOf h) x k → NoneOpen c (markerWritten o ∷ h) (recordsOf (markerWritten o ∷ h)) x k
+none-marked c h o x k n =
+    rw (records, before-quiet producedIn (markerWritten o) h refl)
+    (in-each _ (entriesOf h) (λ d j u z e. each-in (λ (d : Entry). d .what .position ≡ x → underOf h d ≡ 0 → placeIn c (recordsOf h) (d .what .name) ≡ k → ⊥) (entriesOf h) d n j u
+    (first-open (underOf h d) _ (sym (under-next (markerWritten o) h d (entry-before h d j)) ∙ z)) e))
+  where
+    records : recordsOf (markerWritten o ∷ h) ≡ recordsOf h
+    records = unfold recordsOf in refl
+
+pub none-entered : (c : Catalogue) (h : History) (e : Produced) (x k : ℕ) → (e .position ≡ x → placeIn c (recordsOf h) (e .name) ≡ k → ⊥) → NoneOpen c h (recordsOf h) x k
+    → NoneOpen c (entryWritten e ∷ h) (recordsOf (entryWritten e ∷ h)) x k
+none-entered c h e x k f n =
+    rw (records, more-entries)
+    (λ u z i. f u i, under-each h (entryWritten e) (λ position pid. refl) (λ (m : ℕ) (d : Entry). d .what .position ≡ x → m ≡ 0 → placeIn c (recordsOf h) (d .what .name) ≡ k → ⊥) n)
+  where
+    records : recordsOf (entryWritten e ∷ h) ≡ recordsOf h
+    records = unfold recordsOf in refl
+
+    more-entries : entriesOf (entryWritten e ∷ h) ≡ record { what = e; before = h } ∷ entriesOf h
+    more-entries = unfold collectWithBefore in refl
+
+pub none-appended : (c : Catalogue) (h : History) → Told c h → (r : Record) (end : ℕ) → Appendable c h r end → (x k : ℕ) → NoneOpen c h (recordsOf h) x k
+    → NoneOpen c (recordAppended r end ∷ h) (recordsOf (recordAppended r end ∷ h)) x k
+none-appended c h t r end w x k n =
+    rw (records, before-quiet producedIn (recordAppended r end) h refl)
+    (under-each h (recordAppended r end) (λ position pid. refl) (λ (m : ℕ) (d : Entry). d .what .position ≡ x → m ≡ 0 → placeIn c (new ∷ recordsOf h) (d .what .name) ≡ k → ⊥)
+    (in-each _ (entriesOf h) (λ d j u z e.
+    let m = flushedOf h + endOf (recordsOf h) in
+    let all = ending-all m (recordsOf h) (omega arith) in
+    open-at c h t m (omega arith) d j z (λ l s g.
+    each-in (λ (d : Entry). d .what .position ≡ x → underOf h d ≡ 0 → placeIn c (recordsOf h) (d .what .name) ≡ k → ⊥) (entriesOf h) d n j u z
+    (sym (place-kept c new (recordsOf h) new-come (t .ends) (d .what .name) l (sym (ap (latestIn (d .what .name)) all) ∙ s)) ∙ e)))))
+  where
+    new : Logged
+    new = record { number = length h; content = r; end = end }
+
+    records : recordsOf (recordAppended r end ∷ h) ≡ new ∷ recordsOf h
+    records = unfold recordsOf in refl
+
+    new-come : allCome c emptyTable (contents (new ∷ recordsOf h)) ≡ true
+    new-come = come-newest c emptyTable r (contents (recordsOf h)) (t .come) (w .formed) (w .comes)
+
+-- ---- acknowledgements
+
+-- under an event that closes or keeps what is open
+pub acks-kept : (c : Catalogue) (h : History) (s : Coordinator) (e : Event) → ((x k : ℕ) → member (rowAt (s .table) k .acknowledged) x ≡ true → NoneOpen c h (recordsOf h) x k → NoneOpen c (e ∷ h) (recordsOf (e ∷ h)) x k)
+    → AcksAgree c h s → AcksAgree c (e ∷ h) s
+acks-kept c h s e f a =
+    record { closed = λ k x m. let (p, n) = a .closed k x m in (p, f x k m n); small = a .small; waiting = a .waiting }
+
+-- in a state with the same rows
+pub acks-rows : (c : Catalogue) (h : History) (s u : Coordinator) → ((k : ℕ) → rowAt (u .table) k ≡ rowAt (s .table) k) → AcksAgree c h s → AcksAgree c h u
+acks-rows c h s u e a =
+    record {
+      closed = λ k x m. let (p, n) = a .closed k x (sym (ap (λ (r : Row). member (r .acknowledged) x) (e k)) ∙ m) in (ap (λ (r : Row). isPrepare (r .status)) (e k) ∙ p, n);
+      small = λ k. rw (e k) (a .small k);
+      waiting = λ k p z. a .waiting k (sym (ap (λ (r : Row). isPrepare (r .status)) (e k)) ∙ p) (sym (ap outstanding (e k)) ∙ z);
+    }
+
+-- a prepare of which nothing is acknowledged waits
+pub fresh-waits : (c : Catalogue) (row : Row) → wellFormed c (recordOf row) ≡ true → row .acknowledged ≡ 0 → isPrepare (row .status) ≡ true → outstanding row ≡ 0 → ⊥
+fresh-waits c row f a p z =
+    let w = well-formed-parts c (recordOf row) f in
+    let busy : idle (row .status) ≡ false = either (idle (row .status)) (λ i. absurd (prepare-idle (row .status) p i)) (λ i. i) in
+    let some : 0 < row .joined = some-joined (row .status) (row .joined) busy (w .joined-status) in
+    let (low, m, _) = lowest-member (row .joined) some (w .joined-below) in
+    let none-acked : member (row .acknowledged) (lowest (row .joined)) ≡ false = rw a (member-is-not 0 (lowest (row .joined)) (bit-of-none (lowest (row .joined)))) in
+    member-nothing (lowest (row .joined))
+    (subst (λ (n : ℕ). member n (lowest (row .joined)) ≡ true) z
+    (left-is 64 (row .joined) (row .acknowledged) (w .joined-below) (rw a (omega arith)) (lowest (row .joined)) (member-is (row .joined) (lowest (row .joined)) m) none-acked))
+
+-- after a record is appended
+module _ (c : Catalogue) (h : History) (t : Told c h) (s : Coordinator) (a : AcksAgree c h s) where
+  pub acks-appended : (place : ℕ) (row : Row) → place < length (s .table .rows) → row .acknowledged ≡ 0 → wellFormed c (recordOf row) ≡ true
+      → Appendable c h (recordOf row) (logEnd s + length (rowFrame s row))
+      → AcksAgree c (recordAppended (recordOf row) (logEnd s + length (rowFrame s row)) ∷ h) (appended s place row)
+  unfolding appended
+  acks-appended place row inside none-acked formed w =
+      record { closed = λ k x m. closed k x (ℕ-discrete k place) m; small = λ k. small k (ℕ-discrete k place); waiting = λ k p z. waiting k (ℕ-discrete k place) p z }
+    where
+      end : ℕ
+      end = logEnd s + length (rowFrame s row)
+
+      table-there : (k : ℕ) → k ≢ place → rowAt (apply (s .table) place (withEnd row end)) k ≡ rowAt (s .table) k
+      table-there = apply-other (s .table) place (withEnd row end)
+
+      table-here : rowAt (apply (s .table) place (withEnd row end)) place ≡ withEnd row end
+      table-here = apply-same (s .table) place (withEnd row end) inside
+
+      closed : (k x : ℕ) → Dec (k ≡ place) → member (rowAt (apply (s .table) place (withEnd row end)) k .acknowledged) x ≡ true
+          → (isPrepare (rowAt (apply (s .table) place (withEnd row end)) k .status) ≡ true) × NoneOpen c (recordAppended (recordOf row) end ∷ h) (recordsOf (recordAppended (recordOf row) end ∷ h)) x k
+      closed k x (yes e) m =
+          absurd (member-nothing x (subst (λ (n : ℕ). member n x ≡ true) (ap (λ (j : ℕ). rowAt (apply (s .table) place (withEnd row end)) j .acknowledged) e ∙ ap (λ (r : Row). r .acknowledged) table-here ∙ none-acked) m))
+      closed k x (no n) m =
+          let (p, o) = a .closed k x (sym (ap (λ (r : Row). member (r .acknowledged) x) (table-there k n)) ∙ m) in
+          (ap (λ (r : Row). isPrepare (r .status)) (table-there k n) ∙ p, none-appended c h t (recordOf row) end w x k o)
+
+      small : (k : ℕ) → Dec (k ≡ place) → rowAt (apply (s .table) place (withEnd row end)) k .acknowledged < 2 ^ 64
+      small k (yes e) = let z = ap (λ (j : ℕ). rowAt (apply (s .table) place (withEnd row end)) j .acknowledged) e ∙ ap (λ (r : Row). r .acknowledged) table-here ∙ none-acked in omega arith
+      small k (no n) = rw (table-there k n) (a .small k)
+
+      waiting : (k : ℕ) → Dec (k ≡ place) → isPrepare (rowAt (apply (s .table) place (withEnd row end)) k .status) ≡ true → outstanding (rowAt (apply (s .table) place (withEnd row end)) k) ≡ 0 → ⊥
+      waiting k (yes e) p z =
+          let is = ap (rowAt (apply (s .table) place (withEnd row end))) e ∙ table-here in
+          fresh-waits c row formed none-acked (sym (ap (λ (r : Row). isPrepare (r .status)) is) ∙ p) (sym (ap outstanding is) ∙ z)
+      waiting k (no n) p z = a .waiting k (sym (ap (λ (r : Row). isPrepare (r .status)) (table-there k n)) ∙ p) (sym (ap outstanding (table-there k n)) ∙ z)
+
+  -- after a position is acknowledged that is closed, and others wait
+  pub acks-noted : (place position : ℕ) → place < length (s .table .rows) → position < 64 → isPrepare (rowAt (s .table) place .status) ≡ true → rowAt (s .table) place .joined < 2 ^ 64
+      → member (rowAt (s .table) place .joined) position ≡ true → member (rowAt (s .table) place .acknowledged) position ≡ false → eqb (count (outstanding (rowAt (s .table) place))) 1 ≡ false
+      → NoneOpen c h (recordsOf h) position place → AcksAgree c h (acknowledged s place position)
+  unfolding acknowledged
+  acks-noted place position inside below prepares small-joined joins new more-left none-open =
+      record { closed = λ k x m. closed k x (ℕ-discrete k place) m; small = λ k. small k (ℕ-discrete k place); waiting = λ k p z. waiting k (ℕ-discrete k place) p z }
+    where
+      old : Row
+      old = rowAt (s .table) place
+
+      noted : Row
+      noted = withAcknowledged old (insert (old .acknowledged) position)
+
+      table-there : (k : ℕ) → k ≢ place → rowAt (withRow (s .table) place noted) k ≡ rowAt (s .table) k
+      table-there = with-other (s .table) place noted
+
+      table-here : rowAt (withRow (s .table) place noted) place ≡ noted
+      table-here = with-same (s .table) place noted inside
+
+      closed : (k x : ℕ) → Dec (k ≡ place) → member (rowAt (withRow (s .table) place noted) k .acknowledged) x ≡ true
+          → (isPrepare (rowAt (withRow (s .table) place noted) k .status) ≡ true) × NoneOpen c h (recordsOf h) x k
+      closed k x (yes e) m =
+          let is = ap (rowAt (withRow (s .table) place noted)) e ∙ table-here in
+          let m′ : member (insert (old .acknowledged) position) x ≡ true = sym (ap (λ (r : Row). member (r .acknowledged) x) is) ∙ m in
+          (ap (λ (r : Row). isPrepare (r .status)) is ∙ prepares, subst (NoneOpen c h (recordsOf h) x) (sym e) (shut x (ℕ-discrete x position) m′))
+        where
+          shut : (x : ℕ) → Dec (x ≡ position) → member (insert (old .acknowledged) position) x ≡ true → NoneOpen c h (recordsOf h) x place
+          shut x (yes i) m = subst (λ (y : ℕ). NoneOpen c h (recordsOf h) y place) (sym i) none-open
+          shut x (no n) m = a .closed place x (member-is (old .acknowledged) x (sym (insert-other (old .acknowledged) position x n) ∙ member-true (insert (old .acknowledged) position) x m)) .1
+      closed k x (no n) m =
+          let (p, o) = a .closed k x (sym (ap (λ (r : Row). member (r .acknowledged) x) (table-there k n)) ∙ m) in
+          (ap (λ (r : Row). isPrepare (r .status)) (table-there k n) ∙ p, o)
+
+      small : (k : ℕ) → Dec (k ≡ place) → rowAt (withRow (s .table) place noted) k .acknowledged < 2 ^ 64
+      small k (yes e) = subst (λ (r : Row). r .acknowledged < 2 ^ 64) (sym (ap (rowAt (withRow (s .table) place noted)) e ∙ table-here)) (insert-below 64 (old .acknowledged) position (a .small place) below)
+      small k (no n) = rw (table-there k n) (a .small k)
+
+      waiting : (k : ℕ) → Dec (k ≡ place) → isPrepare (rowAt (withRow (s .table) place noted) k .status) ≡ true → outstanding (rowAt (withRow (s .table) place noted) k) ≡ 0 → ⊥
+      waiting k (yes e) p z =
+          let is = ap (rowAt (withRow (s .table) place noted)) e ∙ table-here in
+          let none-left : difference (old .joined) (insert (old .acknowledged) position) ≡ 0 = sym (ap outstanding is) ∙ z in
+          let one = count-left 64 (old .joined) (old .acknowledged) position small-joined (a .small place) below (member-true (old .joined) position joins) (member-false (old .acknowledged) position new) in
+          let zero-left : count (difference (old .joined) (insert (old .acknowledged) position)) ≡ 0 = ap count none-left ∙ count-none in
+          eqb-false (count (outstanding old)) 1 more-left (omega arith)
+      waiting k (no n) p z = a .waiting k (sym (ap (λ (r : Row). isPrepare (r .status)) (table-there k n)) ∙ p) (sym (ap outstanding (table-there k n)) ∙ z)
+
+-- the last one outstanding: every other joined position is acknowledged
+pub last-one : (joined acked position : ℕ) → joined < 2 ^ 64 → acked < 2 ^ 64 → position < 64 → member joined position ≡ true → member acked position ≡ false → eqb (count (difference joined acked)) 1 ≡ true
+    → (x : ℕ) → member joined x ≡ true → x ≢ position → member acked x ≡ true
+last-one joined acked position hj ha below joins new last x m n =
+    either (member acked x) (λ e. e)
+    (λ e.
+    let one = count-left 64 joined acked position hj ha below (member-true joined position joins) (member-false acked position new) in
+    let is : count (difference joined acked) ≡ 1 = eqb-true (count (difference joined acked)) 1 last in
+    let small = insert-below 64 acked position ha below in
+    let none-left : difference joined (insert acked position) ≡ 0 = count-zero 64 (difference joined (insert acked position)) (let q = and-le-l joined ((2 ^ 64 - 1) - insert acked position) in omega arith) (omega arith) in
+    let left : member (difference joined (insert acked position)) x ≡ true = left-is 64 joined (insert acked position) hj small x m (member-is-not (insert acked position) x (insert-other acked position x n ∙ member-false acked x e)) in
+    absurd (member-nothing x (subst (λ (y : ℕ). member y x ≡ true) none-left left)))

@@ -1,0 +1,19 @@
+-- Laws of the crate agreement.
+pub mod Invariant
+pub mod FlushedFirst
+pub mod LiveTable
+pub mod LogSteps
+pub mod Tables
+pub mod Rows
+pub mod RowsAfterProduce
+pub mod RowsAfterMarker
+pub mod Acknowledgements
+pub mod Words
+pub mod Preserves
+pub mod Orders
+pub mod Produces
+pub mod Delivers
+pub mod Acknowledges
+pub mod Restarts
+pub mod Start
+pub mod Steps

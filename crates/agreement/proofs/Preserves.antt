@@ -1,0 +1,193 @@
+-- A step is good if its history grows lawfully and the invariant holds after it. The coordinator's actions are.
+use Prim.Native.Nat.{ℕ, _+_, _≤_, _<_}
+use mathlib.Core.Path.{_≡_, refl, sym, ap, subst, _∙_}
+use mathlib.Core.Bool.{true, false}
+use mathlib.Core.List.{List, [], _∷_}
+use native.Mathlib.Omega.{arith}
+use lib.ListN.{length}
+use Rattle.numbers.proofs.Tests.{not-both}
+use Rattle.catalogue.specs.declared.Catalogue.{Catalogue}
+use Rattle.record.specs.Record.{wellFormed}
+use Rattle.row.specs.Row.{recordOf}
+use Rattle.table.specs.Table.{placeFor}
+use Rattle.table.proofs.Records.{come-place}
+use Rattle.table.proofs.Unacknowledged.{unacknowledged, plain-place-for}
+use Rattle.coordinator.specs.Coordinator.{logEnd, rowFrame, Action, keep, advance, append, acknowledge as acknowledgeAt, flushTo, acknowledged, after}
+use Rattle.coordinator.specs.declared.Coordinator.{Coordinator}
+use Rattle.coordinator.specs.Calls.{CoordinatorCall, callTyped, actionOf}
+use Rattle.writer.proofs.Decisions.{Decided, byCall}
+use Rattle.writer.proofs.Lawful.{Lawful, decided-lawful}
+use Rattle.runs.proofs.Epochs.{epoch-kept}
+use Rattle.runs.specs.History.{Event, recordAppended, logFlushed, History, producedIn, recordsOf, contents, flushedOf, wordsIn}
+use Rattle.runs.specs.World.{Leader, Phase, up, down, nothing, World, catalogueOf, leaderAt, withCarrying, historyAfter, coordinatorDoes, isAck}
+use Rattle.runs.proofs.Admitted.{Own}
+use Rattle.protocol.specs.Entries.{entriesOf}
+use Rattle.protocol.specs.HistoryInvariant.{Told}
+use Rattle.protocol.proofs.Entries.{before-quiet}
+use Rattle.protocol.proofs.NextEvent.{Quiet, flush-quiet}
+use Rattle.protocol.proofs.Extends.{Grown, still, told-grown}
+use Rattle.agreement.proofs.Invariant.{UpLog, LogSide, LeaderAgrees, epochOf, AcksAgree, AcksSide, CarryingSide, Invariant}
+use Rattle.agreement.proofs.FlushedFirst.{Settled, call-settled, proper}
+use Rattle.agreement.proofs.LiveTable.{live-ready, append-may}
+use Rattle.agreement.proofs.LogSteps.{AppendsWell, up-acts, up-grown-by}
+use Rattle.agreement.proofs.Rows.{rows-quiet, rows-append}
+use Rattle.agreement.proofs.Acknowledgements.{none-quiet, acks-kept, acks-rows, acks-appended}
+use Rattle.agreement.proofs.Words.{words-quiet}
+
+pub record Good (w v : World) : Type 0 where
+  pub same-text : v .text ≡ w .text
+  pub grown : Grown (catalogueOf w) (w .history) (v .history)
+  pub holds : Own v → Invariant v
+
+-- ---- the same records
+
+pub log-same : (c : Catalogue) (log : List ℕ) (p : Phase) (h v : History) → recordsOf v ≡ recordsOf h → flushedOf v ≡ flushedOf h → LogSide c log p h → LogSide c log p v
+log-same c log (up s) h v r f l = record { written = rw r (l .written); flushed = l .flushed ∙ sym f }
+log-same c log (down n before) h v r f l =
+    record {
+      state = l .state;
+      records = l .records;
+      written = l .written;
+      low = l .low;
+      high = l .high;
+      left = ap contents r ∙ l .left;
+      flushed = f ∙ l .flushed;
+      within = rw r (l .within);
+    }
+
+-- ---- events
+
+-- while nothing is carried nothing is asked
+pub none-carried : (c : Catalogue) (h : History) (p : Phase) → CarryingSide c h p nothing
+none-carried c h (up s) = tt
+none-carried c h (down n before) = tt
+
+-- an event that writes no entry
+pub leader-quiet : (c : Catalogue) (h : History) → Told c h → (e : Event) → Quiet h e → ((x : ℕ) → wordsIn x e ≡ []) → (epoch x : ℕ) (l : Leader) → LeaderAgrees c h epoch x l → LeaderAgrees c (e ∷ h) epoch x l
+leader-quiet c h t e q n epoch x l a =
+    record { words = a .words ∙ sym (words-quiet x e h (n x)); rows = rows-quiet c h t x (l .partition) (a .rows) e q; coordinator = a .coordinator }
+
+entries-after : (a : Action) (s : Coordinator) (h : History) → entriesOf (historyAfter a s h) ≡ entriesOf h
+entries-after keep s h = refl
+entries-after (advance clock) s h = refl
+entries-after (append place row) s h = before-quiet producedIn (recordAppended (recordOf row) (logEnd s + length (rowFrame s row))) h refl
+entries-after (acknowledgeAt place position) s h = refl
+entries-after (flushTo n) s h = before-quiet producedIn (logFlushed n) h refl
+
+-- what is acknowledged is closed
+abbrev pub Noted : Catalogue → Coordinator → History → Action → Type 0
+Noted c s h keep = Unit {0}
+Noted c s h (advance clock) = Unit {0}
+Noted c s h (append place row) = Unit {0}
+Noted c s h (acknowledgeAt place position) = AcksAgree c h (acknowledged s place position)
+Noted c s h (flushTo n) = Unit {0}
+
+module _ (w : World) (i : Invariant w) where
+  abbrev c : Catalogue
+  c = catalogueOf w
+
+  abbrev h : History
+  h = w .history
+
+  pub same : Good w w
+  same = record { same-text = refl; grown = still; holds = λ o. i }
+
+  -- nothing is carried any more
+  pub idles : Good w (withCarrying w nothing)
+  idles =
+      record {
+        same-text = refl;
+        grown = still;
+        holds = λ o. record {
+          parsed = i .parsed;
+          told = i .told;
+          offsets = i .offsets;
+          log-side = i .log-side;
+          acks = i .acks;
+          own = o;
+          count = i .count;
+          leaders = i .leaders;
+          carried = none-carried c h (w .phase);
+        };
+      }
+
+  module _ (s : Coordinator) (u : w .phase ≡ up s) where
+    pub log-of : UpLog c (w .log) s h
+    log-of = subst (λ (p : Phase). LogSide c (w .log) p h) u (i .log-side)
+
+    pub acks-of : AcksAgree c h s
+    acks-of = subst (λ (p : Phase). AcksSide c p h) u (i .acks)
+
+    pub leaders-of : (x : ℕ) → LeaderAgrees c h (s .epoch) x (leaderAt w x)
+    leaders-of x = subst (λ (p : Phase). LeaderAgrees c h (epochOf p) x (leaderAt w x)) u (i .leaders x)
+
+    leaders-after : (a : Action) → Lawful s a → AppendsWell s h a → (x : ℕ) → LeaderAgrees c (historyAfter a s h) (s .epoch) x (leaderAt w x)
+    leaders-after keep l k x = leaders-of x
+    leaders-after (advance clock) l k x = leaders-of x
+    leaders-after (append place row) l (f, p) x =
+        let end = logEnd s + length (rowFrame s row) in
+        let a = leaders-of x in
+        record {
+          words = a .words ∙ sym (words-quiet x (recordAppended (recordOf row) end) h refl);
+          rows = rows-append c h (i .told) x (leaderAt w x .partition) (a .rows) (recordOf row) end (append-may c (w .log) s h log-of (i .told) place row l f p);
+          coordinator = a .coordinator;
+        }
+    leaders-after (acknowledgeAt place position) l k x = leaders-of x
+    leaders-after (flushTo n) (rises, within) k x =
+        leader-quiet c h (i .told) (logFlushed n) (flush-quiet h n (subst (λ (m : ℕ). m ≤ n) (log-of .flushed) rises)) (λ y. refl) (s .epoch) x (leaderAt w x) (leaders-of x)
+
+    acks-after : (a : Action) → Lawful s a → AppendsWell s h a → Noted c s h a → AcksAgree c (historyAfter a s h) (after a s)
+    acks-after keep l k n = acks-of
+    acks-after (advance clock) l k n = acks-rows c h s (after (advance clock) s) (λ j. refl) acks-of
+    acks-after (append place row) l (f, p) n =
+        acks-appended c h (i .told) s acks-of place row inside (l .none-acknowledged) (subst (λ (y : Catalogue). wellFormed y (recordOf row) ≡ true) (log-of .written .catalogue-is) (l .formed)) (append-may c (w .log) s h log-of (i .told) place row l f p)
+      where
+        inside : place < length (s .table .rows)
+        inside =
+            let at : placeFor (unacknowledged (s .table)) (row .name) ≡ place = plain-place-for (s .table) (row .name) ∙ l .place-is in
+            omega (arith, come-place (unacknowledged (s .table)) (recordOf row) (l .comes), proper s (live-ready c (w .log) s h log-of (i .told)) .all)
+    acks-after (acknowledgeAt place position) l k n = n
+    acks-after (flushTo n) l k m =
+        acks-rows c (logFlushed n ∷ h) s (after (flushTo n) s) (λ j. refl)
+        (acks-kept c h s (logFlushed n) (λ x k b o. none-quiet c h (logFlushed n) refl (λ position pid. refl) (unfold recordsOf in refl) x k o) acks-of)
+
+    -- an action, lent the log buffer
+    pub did : (a : Action) → Decided s (length (w .log)) a → AppendsWell s h a → Noted c s h a → Good w (coordinatorDoes a s w)
+    did a d k n =
+        let l = decided-lawful s (live-ready c (w .log) s h log-of (i .told)) (length (w .log)) a d in
+        let g = up-grown-by c (w .log) s h log-of (i .told) a l k in
+        record {
+          same-text = refl;
+          grown = g;
+          holds = λ o. record {
+            parsed = i .parsed;
+            told = told-grown c h (i .told) g;
+            offsets = rw (entries-after a s h) (i .offsets);
+            log-side = up-acts c (w .log) s h log-of (i .told) a d;
+            acks = acks-after a l k n;
+            own = o;
+            count = i .count;
+            leaders = λ x. rw (epoch-kept a s) (leaders-after a l k x);
+            carried = tt;
+          };
+        }
+
+    -- every call but Ack
+    settled-well : (a : Action) → Settled s a → AppendsWell s h a
+    settled-well keep k = tt
+    settled-well (advance clock) k = tt
+    settled-well (append place row) k = (k .flushed, λ p. not-both (k .unprepared) p)
+    settled-well (acknowledgeAt place position) k = tt
+    settled-well (flushTo n) k = tt
+
+    settled-noted : (a : Action) → Settled s a → Noted c s h a
+    settled-noted keep k = tt
+    settled-noted (advance clock) k = tt
+    settled-noted (append place row) k = tt
+    settled-noted (acknowledgeAt place position) k = absurd k
+    settled-noted (flushTo n) k = tt
+
+    pub calls : (call : CoordinatorCall) → callTyped call ≡ true → isAck call ≡ false → Good w (coordinatorDoes (actionOf call s (length (w .log))) s w)
+    calls call t b =
+        let k = call-settled s (live-ready c (w .log) s h log-of (i .told)) (length (w .log)) call b in
+        did (actionOf call s (length (w .log))) (byCall call t refl) (settled-well (actionOf call s (length (w .log))) k) (settled-noted (actionOf call s (length (w .log))) k)

@@ -1,0 +1,168 @@
+-- The rows of a partition and the entries: what every event keeps that the partition does not write.
+use Prim.Native.Nat.{ℕ, _≤_, _<_, _^_}
+use mathlib.Core.Path.{_≡_, refl, sym, ap, subst, _∙_}
+use mathlib.Core.Bool.{true, false}
+use mathlib.Core.List.{List, _∷_}
+use mathlib.Core.Option.{some}
+use native.Mathlib.Decide.{ℕ-discrete}
+use native.Mathlib.Omega.{arith}
+use lib.Dec.{leb}
+use lib.ListN.{length, getD}
+use mir.Syntax.{w64}
+use borrow.Author.Tests.{leb-true, leb-false, ne-eqb}
+use Rattle.numbers.specs.Border.{toNat}
+use Rattle.numbers.proofs.Border.{natural-below}
+use Rattle.numbers.proofs.Tests.{and-right}
+use Rattle.catalogue.specs.declared.Catalogue.{Catalogue}
+use Rattle.record.specs.declared.Record.{Record}
+use Rattle.record.proofs.Bounds.{formed-starts, well-formed-parts}
+use Rattle.row.specs.Row.{free, isPrepare, held}
+use Rattle.search.specs.Search.{Each}
+use Rattle.table.specs.Table.{emptyTable, rowAt, placeFor}
+use Rattle.log_reader.specs.Records.{tableOf, allCome}
+use Rattle.log_reader.proofs.RecordLaws.{come-newest}
+use Rattle.partition.specs.Limits.{noPid}
+use Rattle.partition.specs.Partition.{producerAt}
+use Rattle.partition.specs.declared.Partition.{Partition}
+use Rattle.runs.specs.History.{Event, recordAppended, History, producedIn, Logged, endingBy, recordsOf, contents, flushedOf, isOf}
+use Rattle.runs.specs.Demand3.{Ends}
+use Rattle.protocol.specs.RecordsOfName.{latestIn, nthPrepare}
+use Rattle.protocol.specs.Entries.{Entry, entriesOf, ordinalOf, kindIn, underOf}
+use Rattle.protocol.specs.HistoryInvariant.{Busy, Closes, Standing, stillOpen, closed, Told}
+use Rattle.protocol.specs.NextEvent.{Appendable}
+use Rattle.protocol.proofs.Lists.{found-with, find-in, In, each-in, in-each, either}
+use Rattle.protocol.proofs.Records.{ending-stays, ending-drops, ending-all, ending-ends, ending-come, come-record, table-latest}
+use Rattle.protocol.proofs.ProducerIds.{PidFrom, fresh, kept, pid-from}
+use Rattle.protocol.proofs.Entries.{before-quiet, entry-before, under-quiet, nth-is}
+use Rattle.protocol.proofs.NextEvent.{under-each, Quiet, prepare-code}
+use Rattle.agreement.proofs.Invariant.{NotAhead, placeIn, Owns, NoneOpen, RowsAgree}
+use Rattle.agreement.proofs.Tables.{latest-starts, place-kept, row-new, row-other, next-rises}
+
+-- ---- what an entry stands under, looked at before an event
+
+pub under-back : (h : History) (e : Event) → ((p : Entry) → In p (entriesOf h) → kindIn (p .what .position) (toNat (p .what .pid)) e ≡ 0) → (P : ℕ → Entry → Type 0) → Each (λ (p : Entry). P (underOf (e ∷ h) p) p) (entriesOf h)
+    → Each (λ (p : Entry). P (underOf h p) p) (entriesOf h)
+under-back h e q P i =
+    in-each (λ (p : Entry). P (underOf h p) p) (entriesOf h)
+    (λ p j. subst (λ (n : ℕ). P n p) (under-quiet e h p (entry-before h p j) (q p j)) (each-in (λ (p : Entry). P (underOf (e ∷ h) p) p) (entriesOf h) p i j))
+
+-- a record that is held is not a free row
+pub held-busy : (c : Catalogue) (l : List Logged) → allCome c emptyTable (contents l) ≡ true → (r : Logged) → In r l → free (held (r .content) (r .end)) ≡ false
+held-busy c l e r i = ne-eqb (getD (r .content .name) 0 0) 0 (formed-starts c (r .content) (come-record c l e r i .0))
+
+-- ---- an open entry at a cut
+
+module _ (c : Catalogue) (h : History) (t : Told c h) where
+  pub view-come : (k : ℕ) → allCome c emptyTable (contents (endingBy k (recordsOf h))) ≡ true
+  view-come k = ending-come k c (recordsOf h) (t .come)
+
+  pub view-ends : (k : ℕ) → Ends c (endingBy k (recordsOf h))
+  view-ends k = ending-ends k c (recordsOf h) (t .ends)
+
+  pub open-at : {X : Type 0} (k : ℕ) → flushedOf h ≤ k → (p : Entry) → In p (entriesOf h) → underOf h p ≡ 0
+      → ((l : Logged) → latestIn (p .what .name) (endingBy k (recordsOf h)) ≡ some l → Busy p (endingBy k (recordsOf h)) l → X) → X
+  open-at {X} k f p j z g = go (each-in (λ (p : Entry). Standing (underOf h p) (endingBy k (recordsOf h)) p) (entriesOf h) p (t .standing k f) j)
+    where
+      go : Standing (underOf h p) (endingBy k (recordsOf h)) p → X
+      go (stillOpen y b) = found-with (Busy p (endingBy k (recordsOf h))) (latestIn (p .what .name) (endingBy k (recordsOf h))) b g
+      go (closed b) =
+          found-with (Closes (underOf h p) p) (nthPrepare (p .what .name) (ordinalOf p) (endingBy k (recordsOf h))) b
+          (λ l e d. absurd (let s = prepare-code (l .content .status) (and-right (isOf (p .what .name) l) (isPrepare (l .content .status)) (nth-is (p .what .name) (endingBy k (recordsOf h)) (ordinalOf p) l e .0)) in omega (arith, d .verdict)))
+
+  module _ (x : ℕ) (p : Partition) (a : RowsAgree c h x p) where
+    -- ---- Flush, a cut, an opening, an Order
+
+    pub rows-quiet : (e : Event) → Quiet h e → RowsAgree c (e ∷ h) x p
+    rows-quiet e q =
+        record {
+          entry-row = λ k b. let (m, f, v) = q .views k b in
+              rw (v, same-entries) (under-each h e (q .no-kind) (λ (n : ℕ) (d : Entry). d .what .position ≡ x → n ≡ 0 → Owns (producerAt p (placeIn c (endingBy m (recordsOf h)) (d .what .name))) d) (a .entry-row m f));
+          row-entry = λ k b. let (m, f, v) = q .views k b in
+              rw (v, same-entries) (λ j o n. a .row-entry m f j o (under-back h e (λ d i. q .no-kind (d .what .position) (toNat (d .what .pid))) (λ (n : ℕ) (d : Entry). d .what .position ≡ x → n ≡ 0 → placeIn c (endingBy m (recordsOf h)) (d .what .name) ≡ j → ⊥) n));
+          epochs = λ k b. let (m, f, v) = q .views k b in rw v (a .epochs m f);
+          firsts = a .firsts;
+          pids = λ k b. let (m, f, v) = q .views k b in rw v (a .pids m f);
+        }
+      where
+        same-entries : entriesOf (e ∷ h) ≡ entriesOf h
+        same-entries = before-quiet producedIn e h (q .no-entry)
+
+    -- ---- a record
+
+    module _ (r : Record) (end : ℕ) (w : Appendable c h r end) where
+      abbrev new : Logged
+      new = record { number = length h; content = r; end = end }
+
+      new-come : allCome c emptyTable (contents (new ∷ recordsOf h)) ≡ true
+      new-come = come-newest c emptyTable r (contents (recordsOf h)) (t .come) (w .formed) (w .comes)
+
+      -- what holds of a cut before the record and of all of them with it holds of every cut
+      at-cuts : (P : List Logged → Type 0) → ((k : ℕ) → flushedOf h ≤ k → P (endingBy k (recordsOf h))) → ((k : ℕ) → flushedOf h ≤ k → endingBy k (recordsOf h) ≡ recordsOf h → P (new ∷ recordsOf h))
+          → (k : ℕ) → flushedOf h ≤ k → P (endingBy k (new ∷ recordsOf h))
+      at-cuts P f g k b =
+          either (leb end k)
+          (λ e. let far = leb-true end k e in rw (ending-stays k new (recordsOf h) far) (g k b (ending-all k (recordsOf h) (omega (arith, w .ends)))))
+          (λ e. rw (ending-drops k new (recordsOf h) (leb-false end k e)) (f k b))
+
+      -- an open entry's place stays
+      stays : (k : ℕ) → flushedOf h ≤ k → endingBy k (recordsOf h) ≡ recordsOf h → (d : Entry) → In d (entriesOf h) → underOf h d ≡ 0 → placeIn c (new ∷ recordsOf h) (d .what .name) ≡ placeIn c (recordsOf h) (d .what .name)
+      stays k b v d j z = open-at k b d j z (λ l e y. place-kept c new (recordsOf h) new-come (t .ends) (d .what .name) l (sym (ap (latestIn (d .what .name)) v) ∙ e))
+
+      new-epochs : (k : ℕ) → flushedOf h ≤ k → endingBy k (recordsOf h) ≡ recordsOf h → (j : ℕ) → NotAhead (producerAt p j) (rowAt (tableOf c (contents (new ∷ recordsOf h))) j)
+      new-epochs k b v j = go (ℕ-discrete j (placeFor (tableOf c (contents (recordsOf h))) (r .name)))
+        where
+          old : (i : ℕ) → NotAhead (producerAt p i) (rowAt (tableOf c (contents (recordsOf h))) i)
+          old = subst (λ (l : List Logged). (i : ℕ) → NotAhead (producerAt p i) (rowAt (tableOf c (contents l)) i)) v (a .epochs k b)
+
+          known : (i : ℕ) → (producerAt p i .pid ≡ noPid → ⊥) → producerAt p i .pid < tableOf c (contents (recordsOf h)) .next
+          known = subst (λ (l : List Logged). (i : ℕ) → (producerAt p i .pid ≡ noPid → ⊥) → producerAt p i .pid < tableOf c (contents l) .next) v (a .pids k b)
+
+          here : (i : ℕ) → i ≡ placeFor (tableOf c (contents (recordsOf h))) (r .name) → PidFrom (tableOf c (contents (recordsOf h)) .next) r (recordsOf h) → producerAt p i .pid ≡ toNat (r .pid) → producerAt p i .epoch ≤ toNat (r .epoch)
+          here i e (fresh pid is above) q =
+              let fits : toNat (r .pid) < 2 ^ 63 = natural-below w64 (r .pid) (well-formed-parts c r (w .formed) .pid-fits) in
+              let n : producerAt p i .pid ≡ noPid → ⊥ = λ z. omega arith in
+              let b = known i n in
+              absurd (omega (arith, ap toNat is))
+          here i e (kept l s f g) q =
+              let starts = latest-starts c (recordsOf h) (t .come) (r .name) l s in
+              let (holding, row) = table-latest c (recordsOf h) (t .come) (t .ends) (r .name) starts l s in
+              let at : i ≡ placeIn c (recordsOf h) (r .name) = e ∙ rw holding refl in
+              let is : rowAt (tableOf c (contents (recordsOf h))) i ≡ held (l .content) (l .end) = ap (rowAt (tableOf c (contents (recordsOf h)))) at ∙ row in
+              let low : producerAt p i .epoch ≤ toNat (l .content .epoch) = subst (NotAhead (producerAt p i)) is (old i) (held-busy c (recordsOf h) (t .come) l (find-in (isOf (r .name)) (recordsOf h) l s)) (q ∙ ap toNat f) in
+              omega arith
+
+          go : Dec (j ≡ placeFor (tableOf c (contents (recordsOf h))) (r .name)) → NotAhead (producerAt p j) (rowAt (tableOf c (contents (new ∷ recordsOf h))) j)
+          go (yes e) =
+              let is = ap (rowAt (tableOf c (contents (new ∷ recordsOf h)))) e ∙ row-new c new (recordsOf h) new-come in
+              subst (NotAhead (producerAt p j)) (sym is) (λ f. here j e (pid-from c (recordsOf h) (t .come) (t .ends) r (w .formed) (w .comes)))
+          go (no n) = subst (NotAhead (producerAt p j)) (sym (row-other c new (recordsOf h) new-come j n)) (old j)
+
+      pub rows-append : RowsAgree c (recordAppended r end ∷ h) x p
+      rows-append =
+          record {
+            entry-row = λ k b. rw (records, same-entries)
+                (under-each h (recordAppended r end) (λ position pid. refl) (λ (n : ℕ) (d : Entry). d .what .position ≡ x → n ≡ 0 → Owns (producerAt p (placeIn c (endingBy k (new ∷ recordsOf h)) (d .what .name))) d)
+                (at-cuts (λ l. Each (λ (d : Entry). d .what .position ≡ x → underOf h d ≡ 0 → Owns (producerAt p (placeIn c l (d .what .name))) d) (entriesOf h)) (a .entry-row)
+                (λ m f v. in-each _ (entriesOf h) (λ d j u z.
+                subst (λ (i : ℕ). Owns (producerAt p i) d) (sym (stays m f v d j z))
+                (subst (λ (l : List Logged). Owns (producerAt p (placeIn c l (d .what .name))) d) v (each-in (λ (d : Entry). d .what .position ≡ x → underOf h d ≡ 0 → Owns (producerAt p (placeIn c (endingBy m (recordsOf h)) (d .what .name))) d) (entriesOf h) d (a .entry-row m f) j u z))))
+                k (rw flushed at b)));
+            row-entry = λ k b. rw (records, same-entries)
+                (λ i o n. at-cuts (λ l. (i : ℕ) → producerAt p i .ongoing ≡ true → NoneOpen c h l x i → ⊥) (a .row-entry)
+                (λ m f v i o n. a .row-entry m f i o (in-each _ (entriesOf h) (λ d j u z e. each-in (λ (d : Entry). d .what .position ≡ x → underOf h d ≡ 0 → placeIn c (new ∷ recordsOf h) (d .what .name) ≡ i → ⊥) (entriesOf h) d n j u z (stays m f v d j z ∙ sym (ap (λ (l : List Logged). placeIn c l (d .what .name)) v) ∙ e))))
+                k (rw flushed at b) i o
+                (under-back h (recordAppended r end) (λ d j. refl) (λ (n : ℕ) (d : Entry). d .what .position ≡ x → n ≡ 0 → placeIn c (endingBy k (new ∷ recordsOf h)) (d .what .name) ≡ i → ⊥) n));
+            epochs = λ k b. rw records (at-cuts (λ l. (i : ℕ) → NotAhead (producerAt p i) (rowAt (tableOf c (contents l)) i)) (a .epochs) new-epochs k (rw flushed at b));
+            firsts = a .firsts;
+            pids = λ k b. rw records (at-cuts (λ l. (i : ℕ) → (producerAt p i .pid ≡ noPid → ⊥) → producerAt p i .pid < tableOf c (contents l) .next) (a .pids)
+                (λ m f v i n. let low : producerAt p i .pid < tableOf c (contents (recordsOf h)) .next = subst (λ (l : List Logged). producerAt p i .pid < tableOf c (contents l) .next) v (a .pids m f i n) in omega (arith, next-rises c new (recordsOf h) new-come)) k (rw flushed at b));
+          }
+        where
+          same-entries : entriesOf (recordAppended r end ∷ h) ≡ entriesOf h
+          same-entries = before-quiet producedIn (recordAppended r end) h refl
+
+          records : recordsOf (recordAppended r end ∷ h) ≡ new ∷ recordsOf h
+          records = unfold recordsOf in refl
+
+          flushed : flushedOf (recordAppended r end ∷ h) ≡ flushedOf h
+          flushed = unfold flushedOf in refl

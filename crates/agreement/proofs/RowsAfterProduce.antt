@@ -1,0 +1,184 @@
+-- The rows of a partition and the entries: what the partition writes.
+use Prim.Native.Nat.{ℕ, _≤_, _<_}
+use mathlib.Core.Path.{_≡_, refl, sym, ap, subst, _∙_}
+use mathlib.Core.Logic.{_≢_}
+use mathlib.Core.Bool.{true}
+use mathlib.Core.List.{List, _∷_}
+use mathlib.Core.Option.{some}
+use native.Mathlib.Decide.{ℕ-discrete}
+use native.Mathlib.Omega.{arith}
+use borrow.Author.Tests.{leb-true, ne-eqb}
+use Rattle.numbers.specs.Border.{toNat}
+use Rattle.catalogue.specs.declared.Catalogue.{Catalogue}
+use Rattle.row.specs.Row.{held}
+use Rattle.row.specs.declared.Row.{Row}
+use Rattle.search.specs.Search.{Each}
+use Rattle.table.specs.Table.{rowAt}
+use Rattle.log_reader.specs.Records.{tableOf}
+use Rattle.partition.specs.Limits.{noPid}
+use Rattle.partition.specs.Partition.{producerAt}
+use Rattle.partition.specs.declared.Partition.{Partition}
+use Rattle.partition.specs.declared.Producer.{Producer}
+use Rattle.runs.specs.History.{Order, Produced, markerWritten, entryWritten, History, producedIn, collectWithBefore, Logged, endingBy, recordsOf, contents, flushedOf, isOf, latestOf}
+use Rattle.runs.specs.Demand3.{Entitled}
+use Rattle.protocol.specs.RecordsOfName.{latestIn}
+use Rattle.protocol.specs.Entries.{Entry, entriesOf, underOf}
+use Rattle.protocol.specs.HistoryInvariant.{Told}
+use Rattle.protocol.proofs.Lists.{some-same, In, each-in, in-each, find-in}
+use Rattle.protocol.proofs.Records.{latest-settled}
+use Rattle.protocol.proofs.ProducerIds.{pid-below}
+use Rattle.protocol.proofs.Entries.{before-quiet, entry-before, under-quiet, under-new}
+use Rattle.protocol.proofs.NextEvent.{under-each}
+use Rattle.agreement.proofs.Invariant.{NotAhead, placeIn, Owns, RowsAgree}
+use Rattle.agreement.proofs.Tables.{place-settled, place-name, place-row}
+use Rattle.agreement.proofs.Rows.{under-back, view-come, view-ends, open-at}
+
+module _ (c : Catalogue) (h : History) (t : Told c h) (x : ℕ) (p : Partition) (a : RowsAgree c h x p) where
+  owns-at : (k : ℕ) → flushedOf h ≤ k → (d : Entry) → In d (entriesOf h) → d .what .position ≡ x → underOf h d ≡ 0 → Owns (producerAt p (placeIn c (endingBy k (recordsOf h)) (d .what .name))) d
+  owns-at k b d j = each-in (λ (d : Entry). d .what .position ≡ x → underOf h d ≡ 0 → Owns (producerAt p (placeIn c (endingBy k (recordsOf h)) (d .what .name))) d) (entriesOf h) d (a .entry-row k b) j
+
+  -- ---- the same rows
+
+  pub rows-same : (q : Partition) → ((k : ℕ) → producerAt q k ≡ producerAt p k) → p .end ≤ q .end → RowsAgree c h x q
+  rows-same q e grows =
+      record {
+        entry-row = λ k b. in-each _ (entriesOf h) (λ d j u z. subst (λ (y : Producer). Owns y d) (sym (e (placeIn c (endingBy k (recordsOf h)) (d .what .name)))) (owns-at k b d j u z));
+        row-entry = λ k b j o. a .row-entry k b j (sym (ap (λ (y : Producer). y .ongoing) (e j)) ∙ o);
+        epochs = λ k b j. subst (λ (y : Producer). NotAhead y (rowAt (tableOf c (contents (endingBy k (recordsOf h)))) j)) (sym (e j)) (a .epochs k b j);
+        firsts = λ j o. let b = a .firsts j (sym (ap (λ (y : Producer). y .ongoing) (e j)) ∙ o) in omega (arith, ap (λ (y : Producer). y .first) (e j));
+        pids = λ k b j f. rw (e j) (a .pids k b j (λ z. f (ap (λ (y : Producer). y .pid) (e j) ∙ z)));
+      }
+
+  -- ---- a marker at another position
+
+  pub rows-marked-elsewhere : (o : Order) → (o .position ≡ x → ⊥) → RowsAgree c (markerWritten o ∷ h) x p
+  rows-marked-elsewhere o n =
+      record {
+        entry-row = λ k b. rw (records, same-entries) (in-each _ (entriesOf h) (λ d j u z. owns-at k (rw flushed at b) d j u (sym (same d j u) ∙ z)));
+        row-entry = λ k b. rw (records, same-entries) (λ j s m. a .row-entry k (rw flushed at b) j s (in-each _ (entriesOf h) (λ d i u z e.
+            each-in (λ (d : Entry). d .what .position ≡ x → underOf (markerWritten o ∷ h) d ≡ 0 → placeIn c (endingBy k (recordsOf h)) (d .what .name) ≡ j → ⊥) (entriesOf h) d m i u (same d i u ∙ z) e)));
+        epochs = λ k b. rw records (a .epochs k (rw flushed at b));
+        firsts = a .firsts;
+        pids = λ k b. rw records (a .pids k (rw flushed at b));
+      }
+    where
+      same-entries : entriesOf (markerWritten o ∷ h) ≡ entriesOf h
+      same-entries = before-quiet producedIn (markerWritten o) h refl
+
+      records : recordsOf (markerWritten o ∷ h) ≡ recordsOf h
+      records = unfold recordsOf in refl
+
+      flushed : flushedOf (markerWritten o ∷ h) ≡ flushedOf h
+      flushed = unfold flushedOf in refl
+
+      same : (d : Entry) → In d (entriesOf h) → d .what .position ≡ x → underOf (markerWritten o ∷ h) d ≡ underOf h d
+      same d j u = under-quiet (markerWritten o) h d (entry-before h d j) (rw (ne-eqb (o .position) (d .what .position) (λ z. n (z ∙ u))))
+
+  -- ---- an entry at another position
+
+  pub rows-entered-elsewhere : (e : Produced) → (e .position ≡ x → ⊥) → RowsAgree c (entryWritten e ∷ h) x p
+  rows-entered-elsewhere e n =
+      record {
+        entry-row = λ k b. rw (records, more-entries)
+            (λ u z. absurd (n u), under-each h (entryWritten e) (λ position pid. refl) (λ (m : ℕ) (d : Entry). d .what .position ≡ x → m ≡ 0 → Owns (producerAt p (placeIn c (endingBy k (recordsOf h)) (d .what .name))) d) (a .entry-row k (rw flushed at b)));
+        row-entry = λ k b. rw (records, more-entries)
+            (λ j s m. a .row-entry k (rw flushed at b) j s (under-back h (entryWritten e) (λ d i. refl) (λ (m : ℕ) (d : Entry). d .what .position ≡ x → m ≡ 0 → placeIn c (endingBy k (recordsOf h)) (d .what .name) ≡ j → ⊥) (m .1)));
+        epochs = λ k b. rw records (a .epochs k (rw flushed at b));
+        firsts = a .firsts;
+        pids = λ k b. rw records (a .pids k (rw flushed at b));
+      }
+    where
+      more-entries : entriesOf (entryWritten e ∷ h) ≡ record { what = e; before = h } ∷ entriesOf h
+      more-entries = unfold collectWithBefore in refl
+
+      records : recordsOf (entryWritten e ∷ h) ≡ recordsOf h
+      records = unfold recordsOf in refl
+
+      flushed : flushedOf (entryWritten e ∷ h) ≡ flushedOf h
+      flushed = unfold flushedOf in refl
+
+  -- ---- one row changes
+
+  module _ (p′ : Partition) (k0 : ℕ) (q : Producer) (here : producerAt p′ k0 ≡ q) (others : (k : ℕ) → k ≢ k0 → producerAt p′ k ≡ producerAt p k) where
+    -- an open entry whose place is another keeps its row
+    owns-other : (d : Entry) (k : ℕ) → k ≢ k0 → Owns (producerAt p k) d → Owns (producerAt p′ k) d
+    owns-other d k n o = subst (λ (y : Producer). Owns y d) (sym (others k n)) o
+
+    -- ---- Produce
+
+    module _ (e : Produced) (l : Logged) (is : latestOf (e .name) h ≡ some l) (f : Entitled e h l) (at : placeIn c (recordsOf h) (e .name) ≡ k0) (ongoing : q .ongoing ≡ true)
+        (pid-is : q .pid ≡ toNat (e .pid)) (epoch-is : q .epoch ≡ toNat (e .epoch)) (first-is : q .first ≤ e .offset) (first-kept : producerAt p k0 .ongoing ≡ true → q .first ≡ producerAt p k0 .first)
+        (within : q .first ≤ p′ .end) (grows : p .end ≤ p′ .end) where
+      abbrev written : Entry
+      written = record { what = e; before = h }
+
+      -- its name's latest record, place and row at every cut
+      settled-latest : (k : ℕ) → flushedOf h ≤ k → latestIn (e .name) (endingBy k (recordsOf h)) ≡ some l
+      settled-latest k b = latest-settled (e .name) (flushedOf h) k b (recordsOf h) l is (leb-true (l .end) (flushedOf h) (f .flushed)) .0
+
+      settled-place : (k : ℕ) → flushedOf h ≤ k → placeIn c (endingBy k (recordsOf h)) (e .name) ≡ k0
+      settled-place k b = place-settled c k (recordsOf h) (t .come) (t .ends) (e .name) l (settled-latest k b) ∙ at
+
+      settled-row : (k : ℕ) → flushedOf h ≤ k → rowAt (tableOf c (contents (endingBy k (recordsOf h)))) k0 ≡ held (l .content) (l .end)
+      settled-row k b = subst (λ (i : ℕ). rowAt (tableOf c (contents (endingBy k (recordsOf h)))) i ≡ held (l .content) (l .end)) (settled-place k b) (place-row c (endingBy k (recordsOf h)) (view-come c h t k) (view-ends c h t k) (e .name) l (settled-latest k b))
+
+      old-owns : (k : ℕ) → flushedOf h ≤ k → (d : Entry) → In d (entriesOf h) → d .what .position ≡ x → underOf h d ≡ 0 → Owns (producerAt p′ (placeIn c (endingBy k (recordsOf h)) (d .what .name))) d
+      old-owns k b d j u z = go (ℕ-discrete (placeIn c (endingBy k (recordsOf h)) (d .what .name)) k0)
+        where
+          go : Dec (placeIn c (endingBy k (recordsOf h)) (d .what .name) ≡ k0) → Owns (producerAt p′ (placeIn c (endingBy k (recordsOf h)) (d .what .name))) d
+          go (no n) = owns-other d _ n (owns-at k b d j u z)
+          go (yes i) =
+              open-at c h t k b d j z (λ r s g.
+              let name : d .what .name ≡ e .name = place-name c (endingBy k (recordsOf h)) (view-come c h t k) (view-ends c h t k) (d .what .name) (e .name) r l s (settled-latest k b) (i ∙ sym (settled-place k b)) in
+              let same : r ≡ l = some-same (sym s ∙ ap (λ (n : List ℕ). latestIn n (endingBy k (recordsOf h))) name ∙ settled-latest k b) in
+              let owned : Owns (producerAt p k0) d = subst (λ (m : ℕ). Owns (producerAt p m) d) i (owns-at k b d j u z) in
+              let older : q .first ≤ d .what .offset = omega (arith, first-kept (owned .ongoing), owned .first) in
+              let pids : d .what .pid ≡ e .pid = sym (g .pid) ∙ ap (λ (y : Logged). y .content .pid) same ∙ f .pid in
+              subst (λ (m : ℕ). Owns (producerAt p′ m) d) (sym i) (subst (λ (y : Producer). Owns y d) (sym here) (record { ongoing = ongoing; pid = pid-is ∙ ap toNat (sym pids); first = older })))
+
+      pub rows-entered : e .position ≡ x → RowsAgree c (entryWritten e ∷ h) x p′
+      rows-entered position =
+          record {
+            entry-row = λ k b. rw (records, more-entries) (
+              λ u z. subst (λ (m : ℕ). Owns (producerAt p′ m) written) (sym (settled-place k (rw flushed at b))) (subst (λ (y : Producer). Owns y written) (sym here) (record { ongoing = ongoing; pid = pid-is; first = first-is })),
+              under-each h (entryWritten e) (λ position pid. refl) (λ (m : ℕ) (d : Entry). d .what .position ≡ x → m ≡ 0 → Owns (producerAt p′ (placeIn c (endingBy k (recordsOf h)) (d .what .name))) d) (in-each _ (entriesOf h) (λ d j. old-owns k (rw flushed at b) d j)),
+            );
+            row-entry = λ k b. rw (records, more-entries) (λ j s m. go k (rw flushed at b) j (ℕ-discrete j k0) s (m .0) (m .1));
+            epochs = λ k b. rw records (λ j. row-epochs k (rw flushed at b) j (ℕ-discrete j k0));
+            firsts = λ j s. row-firsts j (ℕ-discrete j k0) s;
+            pids = λ k b. rw records (λ j s. row-pids k (rw flushed at b) j (ℕ-discrete j k0) s);
+          }
+        where
+          more-entries : entriesOf (entryWritten e ∷ h) ≡ written ∷ entriesOf h
+          more-entries = unfold collectWithBefore in refl
+
+          records : recordsOf (entryWritten e ∷ h) ≡ recordsOf h
+          records = unfold recordsOf in refl
+
+          flushed : flushedOf (entryWritten e ∷ h) ≡ flushedOf h
+          flushed = unfold flushedOf in refl
+
+          go : (k : ℕ) → flushedOf h ≤ k → (j : ℕ) → Dec (j ≡ k0) → producerAt p′ j .ongoing ≡ true
+              → (e .position ≡ x → underOf (entryWritten e ∷ h) written ≡ 0 → placeIn c (endingBy k (recordsOf h)) (e .name) ≡ j → ⊥)
+              → Each (λ (d : Entry). d .what .position ≡ x → underOf (entryWritten e ∷ h) d ≡ 0 → placeIn c (endingBy k (recordsOf h)) (d .what .name) ≡ j → ⊥) (entriesOf h) → ⊥
+          go k b j (yes i) s m ms = m position (under-new (entryWritten e) h written (omega arith)) (settled-place k b ∙ sym i)
+          go k b j (no n) s m ms =
+              a .row-entry k b j (sym (ap (λ (y : Producer). y .ongoing) (others j n)) ∙ s) (under-back h (entryWritten e) (λ d i. refl) (λ (m : ℕ) (d : Entry). d .what .position ≡ x → m ≡ 0 → placeIn c (endingBy k (recordsOf h)) (d .what .name) ≡ j → ⊥) ms)
+
+          row-firsts : (j : ℕ) → Dec (j ≡ k0) → producerAt p′ j .ongoing ≡ true → producerAt p′ j .first ≤ p′ .end
+          row-firsts j (yes i) s = let z : producerAt p′ j .first ≡ q .first = ap (λ (m : ℕ). producerAt p′ m .first) i ∙ ap (λ (y : Producer). y .first) here in omega arith
+          row-firsts j (no n) s = let b = a .firsts j (sym (ap (λ (y : Producer). y .ongoing) (others j n)) ∙ s) in omega (arith, ap (λ (y : Producer). y .first) (others j n))
+
+          row-epochs : (k : ℕ) → flushedOf h ≤ k → (j : ℕ) → Dec (j ≡ k0) → NotAhead (producerAt p′ j) (rowAt (tableOf c (contents (endingBy k (recordsOf h)))) j)
+          row-epochs k b j (yes i) free-not s =
+              let same : producerAt p′ j .epoch ≡ toNat (e .epoch) = ap (λ (m : ℕ). producerAt p′ m .epoch) i ∙ ap (λ (y : Producer). y .epoch) here ∙ epoch-is in
+              let row : rowAt (tableOf c (contents (endingBy k (recordsOf h)))) j .epoch ≡ toNat (l .content .epoch) = ap (λ (m : ℕ). rowAt (tableOf c (contents (endingBy k (recordsOf h)))) m .epoch) i ∙ ap (λ (y : Row). y .epoch) (settled-row k b) in
+              omega (arith, ap toNat (f .epoch))
+          row-epochs k b j (no n) free-not s = subst (λ (y : Producer). NotAhead y (rowAt (tableOf c (contents (endingBy k (recordsOf h)))) j)) (sym (others j n)) (a .epochs k b j) free-not s
+
+          row-pids : (k : ℕ) → flushedOf h ≤ k → (j : ℕ) → Dec (j ≡ k0) → (producerAt p′ j .pid ≡ noPid → ⊥) → producerAt p′ j .pid < tableOf c (contents (endingBy k (recordsOf h))) .next
+          row-pids k b j (yes i) s =
+              let same : producerAt p′ j .pid ≡ toNat (e .pid) = ap (λ (m : ℕ). producerAt p′ m .pid) i ∙ ap (λ (y : Producer). y .pid) here ∙ pid-is in
+              let low = pid-below c (endingBy k (recordsOf h)) (view-come c h t k) l (find-in (isOf (e .name)) (endingBy k (recordsOf h)) l (settled-latest k b)) in
+              omega (arith, ap toNat (f .pid))
+          row-pids k b j (no n) s = rw (others j n) (a .pids k b j (λ z. s (ap (λ (y : Producer). y .pid) (others j n) ∙ z)))
