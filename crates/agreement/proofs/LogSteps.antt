@@ -78,9 +78,6 @@ module _ (c : Catalogue) (log : List ℕ) (s : Coordinator) (h : History) (u : U
   up-grown-by (acknowledgeAt place position) l w = still
   up-grown-by (flushTo n) (rises, within) w = more {e = logFlushed n} still (subst (λ (k : ℕ). k ≤ n) (u .flushed) rises)
 
-  pub up-grown : (a : Action) → Decided s (length log) a → AppendsWell s h a → Grown c h (historyAfter a s h)
-  up-grown a d w = up-grown-by a (decided-lawful s (live-ready c log s h u t) (length log) a d) w
-
   -- ---- a cut
 
   pub cut-may : (n : ℕ) → s .flushed ≤ n → MayBeNext c h (logCut n)

@@ -71,10 +71,6 @@ pub first-zero : (n : ℕ) → firstOf n 0 ≡ n
 first-zero zero = refl
 first-zero (suc n) = refl
 
-pub first-some : (n k : ℕ) → firstOf n (suc k) ≡ 0 → ⊥
-first-some zero k e = omega arith
-first-some (suc n) k e = omega arith
-
 pub first-open : (n k : ℕ) → firstOf n k ≡ 0 → n ≡ 0
 first-open zero k e = refl
 first-open (suc n) k e = e

@@ -63,10 +63,6 @@ module _ {A : Type 0} (P : A → Type 0) where
   in-each [] f = tt
   in-each (x ∷ l) f = (f x (here refl), in-each l (λ r i. f r (there i)))
 
-pub in-append : {A : Type 0} (r : A) (newer older : List A) → In r older → In r (newer ++ older)
-in-append r [] older i = i
-in-append r (x ∷ newer) older i = there (in-append r newer older i)
-
 -- ---- filters and searches
 
 module _ {A : Type 0} (P : A → Type 0) (p : A → Bool) where

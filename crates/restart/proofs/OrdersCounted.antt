@@ -144,9 +144,6 @@ module _ (p : Logged) (prepares : isPrepare (p .content .status) ≡ true) (n : 
       carried-here : o .for ≡ p .number → carriedFor p v ≡ 1 + carriedFor p h
       carried-here e = carried-more p o h ∙ rw (eq-eqb (o .for) (p .number) e) refl
 
-      carried-there : (o .for ≡ p .number → ⊥) → collect carriedIn v ≡ o ∷ collect carriedIn h
-      carried-there d = unfold collect in refl
-
       same-count : (o .for ≡ p .number → ⊥) → carriedFor p v ≡ carriedFor p h
       same-count d = carried-more p o h ∙ rw (ne-eqb (o .for) (p .number) d) (omega arith)
 

@@ -156,6 +156,3 @@ place-acknowledged s place position name =
 pub carried-more : (p : Logged) (o : Order) (h : History) → carriedFor p (orderCarried o ∷ h) ≡ cond (eqb (o .for) (p .number)) 1 0 + carriedFor p h
 unfolding collect countWhere
 carried-more p o h = refl
-
-pub carried-quiet-in : (e : Event) (h : History) → carriedIn e ≡ [] → collect carriedIn (e ∷ h) ≡ collect carriedIn h
-carried-quiet-in e h q = collect-quiet carriedIn e h q
