@@ -29,11 +29,11 @@ use Rattle.coordinator.specs.declared.Coordinator.{Coordinator}
 use Rattle.runs.specs.History.{Order, Produced, Event, recordAppended, markerWritten, entryWritten, History, producedIn, collectWithBefore, Logged, recordsOf, contents, endOf, flushedOf}
 use Rattle.protocol.specs.RecordsOfName.{latestIn}
 use Rattle.protocol.specs.Entries.{Entry, entriesOf, kindIn, underOf}
-use Rattle.protocol.specs.HistoryInvariant.{Told}
+use Rattle.protocol.specs.HistoryInvariant.{HistoryInvariant}
 use Rattle.protocol.specs.NextEvent.{Appendable}
 use Rattle.protocol.proofs.Lists.{each-in, in-each, either}
 use Rattle.protocol.proofs.Records.{ending-all}
-use Rattle.protocol.proofs.Entries.{before-quiet, entry-before, under-next, first-open}
+use Rattle.protocol.proofs.Entries.{collect-before-same, entry-before, under-next, first-open}
 use Rattle.protocol.proofs.NextEvent.{under-each, prepare-idle}
 use Rattle.agreement.proofs.Invariant.{placeIn, NoneOpen, AcksAgree}
 use Rattle.agreement.proofs.Tables.{place-kept}
@@ -44,23 +44,23 @@ use Rattle.agreement.proofs.Rows.{open-at}
 pub member-nothing : (x : ℕ) → member 0 x ≡ true → ⊥
 member-nothing x m = true≢false (sym m ∙ member-is-not 0 x (bit-of-none x))
 
-pub none-quiet : (c : Catalogue) (h : History) (e : Event) → producedIn e ≡ [] → ((position pid : ℕ) → kindIn position pid e ≡ 0) → recordsOf (e ∷ h) ≡ recordsOf h → (x k : ℕ)
+pub none-open-kept : (c : Catalogue) (h : History) (e : Event) → producedIn e ≡ [] → ((position pid : ℕ) → kindIn position pid e ≡ 0) → recordsOf (e ∷ h) ≡ recordsOf h → (x k : ℕ)
     → NoneOpen c h (recordsOf h) x k → NoneOpen c (e ∷ h) (recordsOf (e ∷ h)) x k
-none-quiet c h e p q r x k n =
-    rw (r, before-quiet producedIn e h p) (under-each h e q (λ (m : ℕ) (d : Entry). d .what .position ≡ x → m ≡ 0 → placeIn c (recordsOf h) (d .what .name) ≡ k → ⊥) n)
+none-open-kept c h e p q r x k n =
+    rw (r, collect-before-same producedIn e h p) (under-each h e q (λ (m : ℕ) (d : Entry). d .what .position ≡ x → m ≡ 0 → placeIn c (recordsOf h) (d .what .name) ≡ k → ⊥) n)
 
-pub none-marked : (c : Catalogue) (h : History) (o : Order) (x k : ℕ) → NoneOpen c h (recordsOf h) x k → NoneOpen c (markerWritten o ∷ h) (recordsOf (markerWritten o ∷ h)) x k
-none-marked c h o x k n =
-    rw (records, before-quiet producedIn (markerWritten o) h refl)
+pub none-open-marked : (c : Catalogue) (h : History) (o : Order) (x k : ℕ) → NoneOpen c h (recordsOf h) x k → NoneOpen c (markerWritten o ∷ h) (recordsOf (markerWritten o ∷ h)) x k
+none-open-marked c h o x k n =
+    rw (records, collect-before-same producedIn (markerWritten o) h refl)
     (in-each _ (entriesOf h) (λ d j u z e. each-in (λ (d : Entry). d .what .position ≡ x → underOf h d ≡ 0 → placeIn c (recordsOf h) (d .what .name) ≡ k → ⊥) (entriesOf h) d n j u
     (first-open (underOf h d) _ (sym (under-next (markerWritten o) h d (entry-before h d j)) ∙ z)) e))
   where
     records : recordsOf (markerWritten o ∷ h) ≡ recordsOf h
     records = unfold recordsOf in refl
 
-pub none-entered : (c : Catalogue) (h : History) (e : Produced) (x k : ℕ) → (e .position ≡ x → placeIn c (recordsOf h) (e .name) ≡ k → ⊥) → NoneOpen c h (recordsOf h) x k
+pub none-open-entered : (c : Catalogue) (h : History) (e : Produced) (x k : ℕ) → (e .position ≡ x → placeIn c (recordsOf h) (e .name) ≡ k → ⊥) → NoneOpen c h (recordsOf h) x k
     → NoneOpen c (entryWritten e ∷ h) (recordsOf (entryWritten e ∷ h)) x k
-none-entered c h e x k f n =
+none-open-entered c h e x k f n =
     rw (records, more-entries)
     (λ u z i. f u i, under-each h (entryWritten e) (λ position pid. refl) (λ (m : ℕ) (d : Entry). d .what .position ≡ x → m ≡ 0 → placeIn c (recordsOf h) (d .what .name) ≡ k → ⊥) n)
   where
@@ -70,10 +70,10 @@ none-entered c h e x k f n =
     more-entries : entriesOf (entryWritten e ∷ h) ≡ record { what = e; before = h } ∷ entriesOf h
     more-entries = unfold collectWithBefore in refl
 
-pub none-appended : (c : Catalogue) (h : History) → Told c h → (r : Record) (end : ℕ) → Appendable c h r end → (x k : ℕ) → NoneOpen c h (recordsOf h) x k
+pub none-open-appended : (c : Catalogue) (h : History) → HistoryInvariant c h → (r : Record) (end : ℕ) → Appendable c h r end → (x k : ℕ) → NoneOpen c h (recordsOf h) x k
     → NoneOpen c (recordAppended r end ∷ h) (recordsOf (recordAppended r end ∷ h)) x k
-none-appended c h t r end w x k n =
-    rw (records, before-quiet producedIn (recordAppended r end) h refl)
+none-open-appended c h t r end w x k n =
+    rw (records, collect-before-same producedIn (recordAppended r end) h refl)
     (under-each h (recordAppended r end) (λ position pid. refl) (λ (m : ℕ) (d : Entry). d .what .position ≡ x → m ≡ 0 → placeIn c (new ∷ recordsOf h) (d .what .name) ≡ k → ⊥)
     (in-each _ (entriesOf h) (λ d j u z e.
     let m = flushedOf h + endOf (recordsOf h) in
@@ -121,7 +121,7 @@ fresh-waits c row f a p z =
     (left-is 64 (row .joined) (row .acknowledged) (w .joined-below) (rw a (omega arith)) (lowest (row .joined)) (member-is (row .joined) (lowest (row .joined)) m) none-acked))
 
 -- after a record is appended
-module _ (c : Catalogue) (h : History) (t : Told c h) (s : Coordinator) (a : AcksAgree c h s) where
+module _ (c : Catalogue) (h : History) (t : HistoryInvariant c h) (s : Coordinator) (a : AcksAgree c h s) where
   pub acks-appended : (place : ℕ) (row : Row) → place < length (s .table .rows) → row .acknowledged ≡ 0 → wellFormed c (recordOf row) ≡ true
       → Appendable c h (recordOf row) (logEnd s + length (rowFrame s row))
       → AcksAgree c (recordAppended (recordOf row) (logEnd s + length (rowFrame s row)) ∷ h) (appended s place row)
@@ -144,7 +144,7 @@ module _ (c : Catalogue) (h : History) (t : Told c h) (s : Coordinator) (a : Ack
           absurd (member-nothing x (subst (λ (n : ℕ). member n x ≡ true) (ap (λ (j : ℕ). rowAt (apply (s .table) place (withEnd row end)) j .acknowledged) e ∙ ap (λ (r : Row). r .acknowledged) table-here ∙ none-acked) m))
       closed k x (no n) m =
           let (p, o) = a .closed k x (sym (ap (λ (r : Row). member (r .acknowledged) x) (table-there k n)) ∙ m) in
-          (ap (λ (r : Row). isPrepare (r .status)) (table-there k n) ∙ p, none-appended c h t (recordOf row) end w x k o)
+          (ap (λ (r : Row). isPrepare (r .status)) (table-there k n) ∙ p, none-open-appended c h t (recordOf row) end w x k o)
 
       small : (k : ℕ) → Dec (k ≡ place) → rowAt (apply (s .table) place (withEnd row end)) k .acknowledged < 2 ^ 64
       small k (yes e) = let z = ap (λ (j : ℕ). rowAt (apply (s .table) place (withEnd row end)) j .acknowledged) e ∙ ap (λ (r : Row). r .acknowledged) table-here ∙ none-acked in omega arith

@@ -39,17 +39,17 @@ use Rattle.protocol.specs.Entries.{Entry, entriesOf, underOf}
 use Rattle.protocol.specs.NextEvent.{NothingOpen}
 use Rattle.protocol.proofs.Lists.{In, some-same, each-in, in-each}
 use Rattle.protocol.proofs.Records.{ending-all, come-record}
-use Rattle.protocol.proofs.NextEvent.{carried-quiet, natural-pos}
-use Rattle.protocol.proofs.Extends.{Grown, grown-then}
+use Rattle.protocol.proofs.NextEvent.{carried-writes-nothing, natural-pos}
+use Rattle.protocol.proofs.Extends.{Extends, extends-then}
 use Rattle.agreement.proofs.Invariant.{placeIn, NoneOpen, UnderWay, Invariant}
 use Rattle.agreement.proofs.FlushedFirst.{proper, own-place}
 use Rattle.agreement.proofs.LiveTable.{live-ready, live-latest, live-place}
-use Rattle.agreement.proofs.LogSteps.{AppendsWell}
+use Rattle.agreement.proofs.LogSteps.{MayAppend}
 use Rattle.agreement.proofs.Rows.{open-at}
 use Rattle.agreement.proofs.RowsAfterMarker.{for-latest}
-use Rattle.agreement.proofs.Acknowledgements.{none-quiet, acks-noted, last-one}
-use Rattle.agreement.proofs.Preserves.{Good, Noted, none-carried, log-of, acks-of, did}
-use Rattle.agreement.proofs.Orders.{Beside, beside-good, way-same, prepare-held}
+use Rattle.agreement.proofs.Acknowledgements.{none-open-kept, acks-noted, last-one}
+use Rattle.agreement.proofs.Preserves.{Preserves, AcknowledgesClosed, none-carried, log-of, acks-of, did}
+use Rattle.agreement.proofs.Orders.{OrderOnly, order-only-preserves, way-same, prepare-held}
 use Rattle.agreement.proofs.Delivers.{ItsPrepare, its, place-below, position-listed}
 
 module _ (w : World) (i : Invariant w) (s : Coordinator) (u : w .phase ≡ up s) (o : Order) (way : UnderWay (catalogueOf w) (w .history) s o) where
@@ -72,11 +72,11 @@ module _ (w : World) (i : Invariant w) (s : Coordinator) (u : w .phase ≡ up s)
   r = it .prepare
 
   latest-is : latestOf (r .content .name) h ≡ some r
-  latest-is = for-latest c h (i .told) o r (it .there) (it .is-for)
+  latest-is = for-latest c h (i .of-history) o r (it .there) (it .is-for)
 
   -- the row of its place is its prepare's
   pub row-is : withAcknowledged row 0 ≡ held (r .content) (r .end)
-  row-is = subst (λ (k : ℕ). withAcknowledged (rowAt (s .table) k) 0 ≡ held (r .content) (r .end)) (live-place c (w .log) s h (log-of w i s u) (i .told) (r .content .name) ∙ it .place) (live-latest c (w .log) s h (log-of w i s u) (i .told) (r .content .name) r latest-is)
+  row-is = subst (λ (k : ℕ). withAcknowledged (rowAt (s .table) k) 0 ≡ held (r .content) (r .end)) (live-place c (w .log) s h (log-of w i s u) (i .of-history) (r .content .name) ∙ it .place) (live-latest c (w .log) s h (log-of w i s u) (i .of-history) (r .content .name) r latest-is)
 
   row-prepares : isPrepare (row .status) ≡ true
   row-prepares = ap (λ (y : Row). isPrepare (y .status)) row-is ∙ it .is-for .prepare
@@ -88,7 +88,7 @@ module _ (w : World) (i : Invariant w) (s : Coordinator) (u : w .phase ≡ up s)
   row-held = prepare-held w i s u k0 row-prepares
 
   formed : wellFormed c (r .content) ≡ true
-  formed = come-record c (recordsOf h) (i .told .come) r (it .there) .0
+  formed = come-record c (recordsOf h) (i .of-history .come) r (it .there) .0
 
   pub joined-small : row .joined < 2 ^ 64
   joined-small = let b = well-formed-parts c (r .content) formed .joined-below in omega (arith, ap (λ (y : Row). y .joined) row-is)
@@ -105,7 +105,7 @@ module _ (w : World) (i : Invariant w) (s : Coordinator) (u : w .phase ≡ up s)
       let admitted : admits s (length (w .log)) ≡ true = written-admits c (w .log) s (contents (recordsOf h)) (l .written) (length (w .log)) ∙ eq-eqb (length (w .log)) (length (w .log)) refl in
       let listed : member (s .catalogue .all) (o .position) ≡ true = subst (λ (y : Catalogue). member (y .all) (o .position) ≡ true) (sym (l .written .catalogue-is)) (position-listed w i s u o way) in
       let (n, n-is) = well-formed-parts c (r .content) formed .pid-natural in
-      let (m, m-is, _) = at-least 0 (r .content .epoch) (come-record c (recordsOf h) (i .told .come) r (it .there) .1 .epoch-natural) in
+      let (m, m-is, _) = at-least 0 (r .content .epoch) (come-record c (recordsOf h) (i .of-history .come) r (it .there) .1 .epoch-natural) in
       let pid : o .pid ≡ pos (row .pid) = sym (it .is-for .pid) ∙ sym (natural-pos (r .content .pid) n n-is) ∙ ap pos (sym (ap (λ (y : Row). y .pid) row-is)) in
       let epoch : o .epoch ≡ pos (row .epoch) = sym (it .is-for .epoch) ∙ sym (natural-pos (r .content .epoch) m m-is) ∙ ap pos (sym (ap (λ (y : Row). y .epoch) row-is)) in
       let end : row .end ≡ r .end = ap (λ (y : Row). y .end) row-is in
@@ -123,7 +123,7 @@ module _ (w : World) (i : Invariant w) (s : Coordinator) (u : w .phase ≡ up s)
       let view = ending-all k (recordsOf h) (omega arith) in
       let same-name : d .what .name ≡ r .content .name = name ∙ ap (λ (y : Row). y .name) row-is in
       let at : placeIn c (recordsOf h) (d .what .name) ≡ k0 = ap (placeIn c (recordsOf h)) same-name ∙ it .place in
-      open-at c h (i .told) k (omega arith) d j z (λ l e b.
+      open-at c h (i .of-history) k (omega arith) d j z (λ l e b.
       let same : l ≡ r = some-same (sym (sym (ap (latestIn (d .what .name)) view) ∙ e) ∙ ap (λ (y : List ℕ). latestIn y (recordsOf h)) same-name ∙ latest-is) in
       let joins : member (row .joined) (d .what .position) ≡ true = ap (λ (y : Row). member (y .joined) (d .what .position)) row-is ∙ sym (ap (λ (y : Logged). member (y .content .joined) (d .what .position)) same) ∙ b .joined in
       go d j z at joins (ℕ-discrete (d .what .position) (o .position))))
@@ -136,46 +136,46 @@ module _ (w : World) (i : Invariant w) (s : Coordinator) (u : w .phase ≡ up s)
 
   module _ (n : NoneOpen c h (recordsOf h) (o .position) k0) where
     inside : k0 < length (s .table .rows)
-    inside = let b = place-below w i s u o way in omega (arith, proper s (live-ready c (w .log) s h (log-of w i s u) (i .told)) .all)
+    inside = let b = place-below w i s u o way in omega (arith, proper s (live-ready c (w .log) s h (log-of w i s u) (i .of-history)) .all)
 
-    well : AppendsWell s h (ack s (length (w .log)) k0 (o .pid) (o .epoch) (o .position) .action)
+    well : MayAppend s h (ack s (length (w .log)) k0 (o .pid) (o .epoch) (o .position) .action)
     unfolding ack ackAction
     well =
-        unless-does (firstRefusal (ackTests s (length (w .log)) k0 (o .pid) (o .epoch) (o .position))) Refused keep _ (AppendsWell s h) tt
-        (λ e. by-cases (AppendsWell s h) (member (row .acknowledged) (o .position)) (λ m. tt)
-        (λ m. by-cases (AppendsWell s h) (lastOutstanding row)
-        (λ l. let own = own-place s (live-ready c (w .log) s h (log-of w i s u) (i .told)) k0 row-held in
+        unless-does (firstRefusal (ackTests s (length (w .log)) k0 (o .pid) (o .epoch) (o .position))) Refused keep _ (MayAppend s h) tt
+        (λ e. by-cases (MayAppend s h) (member (row .acknowledged) (o .position)) (λ m. tt)
+        (λ m. by-cases (MayAppend s h) (lastOutstanding row)
+        (λ l. let own = own-place s (live-ready c (w .log) s h (log-of w i s u) (i .of-history)) k0 row-held in
         (rw own (ack-passed s (length (w .log)) k0 (o .pid) (o .epoch) (o .position) e .flushed), λ p. nothing-open n l)) (λ l. tt)))
 
-    notes : Noted c s h (ack s (length (w .log)) k0 (o .pid) (o .epoch) (o .position) .action)
+    notes : AcknowledgesClosed c s h (ack s (length (w .log)) k0 (o .pid) (o .epoch) (o .position) .action)
     unfolding ack ackAction
     notes =
-        unless-does (firstRefusal (ackTests s (length (w .log)) k0 (o .pid) (o .epoch) (o .position))) Refused keep _ (Noted c s h) tt
-        (λ e. by-cases (Noted c s h) (member (row .acknowledged) (o .position)) (λ m. tt)
-        (λ m. by-cases (Noted c s h) (lastOutstanding row) (λ l. tt)
-        (λ l. acks-noted c h (i .told) s (acks-of w i s u) k0 (o .position) inside position-below row-prepares joined-small row-joins (way .waits) l n)))
+        unless-does (firstRefusal (ackTests s (length (w .log)) k0 (o .pid) (o .epoch) (o .position))) Refused keep _ (AcknowledgesClosed c s h) tt
+        (λ e. by-cases (AcknowledgesClosed c s h) (member (row .acknowledged) (o .position)) (λ m. tt)
+        (λ m. by-cases (AcknowledgesClosed c s h) (lastOutstanding row) (λ l. tt)
+        (λ l. acks-noted c h (i .of-history) s (acks-of w i s u) k0 (o .position) inside position-below row-prepares joined-small row-joins (way .waits) l n)))
 
-    pub acked : Good w (coordinatorDoes (ack s (length (w .log)) k0 (o .pid) (o .epoch) (o .position) .action) s w)
+    pub acked : Preserves w (coordinatorDoes (ack s (length (w .log)) k0 (o .pid) (o .epoch) (o .position) .action) s w)
     acked = did w i s u (ack s (length (w .log)) k0 (o .pid) (o .epoch) (o .position) .action) (byCall (ackCall k0 (o .pid) (o .epoch) (o .position)) refl refl) well notes
 
 -- ---- with the event that the order is carried
 
-pub good-then : (w v z : World) → Good w v → Own v → (Invariant v → Good v z) → Good w z
-good-then w v z g o f =
+pub preserves-then : (w v z : World) → Preserves w v → Own v → (Invariant v → Preserves v z) → Preserves w z
+preserves-then w v z g o f =
     let k = f (g .holds o) in
     record {
       same-text = k .same-text ∙ g .same-text;
-      grown = grown-then (catalogueOf w) (w .history) (g .grown) (subst (λ (y : List ℕ). Grown (parse y .catalogue) (v .history) (z .history)) (g .same-text) (k .grown));
+      extends = extends-then (catalogueOf w) (w .history) (g .extends) (subst (λ (y : List ℕ). Extends (parse y .catalogue) (v .history) (z .history)) (g .same-text) (k .extends));
       holds = k .holds;
     }
 
 pub acknowledges-own : (w : World) (i : Invariant w) (s : Coordinator) (u : w .phase ≡ up s) (o : Order) → UnderWay (catalogueOf w) (w .history) s o → NoneOpen (catalogueOf w) (w .history) (recordsOf (w .history)) (o .position) (o .place)
-    → Good w (coordinatorDoes (ack s (length (w .log)) (o .place) (o .pid) (o .epoch) (o .position) .action) s (withEvent w (orderCarried o)))
+    → Preserves w (coordinatorDoes (ack s (length (w .log)) (o .place) (o .pid) (o .epoch) (o .position) .action) s (withEvent w (orderCarried o)))
 acknowledges-own w i s u o way n =
     let c = catalogueOf w in
     let h = w .history in
-    let b : Beside h (orderCarried o) = record { quiet = carried-quiet h o; no-words = λ x. refl; records = unfold recordsOf in refl; flushed = unfold flushedOf in refl } in
+    let b : OrderOnly h (orderCarried o) = record { writes-nothing = carried-writes-nothing h o; no-words = λ x. refl; records = unfold recordsOf in refl; flushed = unfold flushedOf in refl } in
     let v = withCarrying (withEvent w (orderCarried o)) nothing in
-    good-then w v (coordinatorDoes (ack s (length (w .log)) (o .place) (o .pid) (o .epoch) (o .position) .action) s (withEvent w (orderCarried o)))
-    (beside-good w i (orderCarried o) b tt nothing (none-carried c (orderCarried o ∷ h) (w .phase))) (record { of-log = i .own .of-log; of-words = i .own .of-words })
-    (λ j. acked v j s u o (way-same c h (orderCarried o ∷ h) s o (b .records) (b .flushed) way) (none-quiet c h (orderCarried o) refl (λ position pid. refl) (b .records) (o .position) (o .place) n))
+    preserves-then w v (coordinatorDoes (ack s (length (w .log)) (o .place) (o .pid) (o .epoch) (o .position) .action) s (withEvent w (orderCarried o)))
+    (order-only-preserves w i (orderCarried o) b tt nothing (none-carried c (orderCarried o ∷ h) (w .phase))) (record { of-log = i .own .of-log; of-words = i .own .of-words })
+    (λ j. acked v j s u o (way-same c h (orderCarried o ∷ h) s o (b .records) (b .flushed) way) (none-open-kept c h (orderCarried o) refl (λ position pid. refl) (b .records) (o .position) (o .place) n))

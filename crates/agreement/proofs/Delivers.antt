@@ -45,7 +45,7 @@ use Rattle.protocol.specs.Entries.{Entry, entriesOf, underOf}
 use Rattle.protocol.specs.NextEvent.{Markable}
 use Rattle.protocol.proofs.Lists.{found-is, found-with, In, each-in, in-each, find-in, either}
 use Rattle.protocol.proofs.Records.{ending-all, come-record, table-latest}
-use Rattle.protocol.proofs.Entries.{before-quiet}
+use Rattle.protocol.proofs.Entries.{collect-before-same}
 use Rattle.protocol.proofs.NextEvent.{prepare-code}
 use Rattle.protocol.proofs.Extends.{still, more}
 use Rattle.agreement.proofs.Invariant.{NotAhead, epochOf, placeIn, NoneOpen, AcksSide, UnderWay, CarryingSide, Invariant}
@@ -53,11 +53,11 @@ use Rattle.agreement.proofs.Tables.{latest-starts, place-row}
 use Rattle.agreement.proofs.Rows.{held-busy}
 use Rattle.agreement.proofs.RowsAfterProduce.{rows-same, rows-marked-elsewhere}
 use Rattle.agreement.proofs.RowsAfterMarker.{for-latest, place-pid, marked-none, closed-none, another-none, rows-marked, rows-noted}
-use Rattle.agreement.proofs.Acknowledgements.{none-marked, acks-kept}
-use Rattle.agreement.proofs.Words.{words-next, words-quiet}
-use Rattle.agreement.proofs.Preserves.{Good, log-same, acks-of, leaders-of}
+use Rattle.agreement.proofs.Acknowledgements.{none-open-marked, acks-kept}
+use Rattle.agreement.proofs.Words.{words-next, words-same}
+use Rattle.agreement.proofs.Preserves.{Preserves, log-same, acks-of, leaders-of}
 use Rattle.agreement.proofs.Orders.{way-same}
-use Rattle.agreement.proofs.Produces.{own-at, led-good, position-below}
+use Rattle.agreement.proofs.Produces.{own-at, leader-preserves, position-below}
 
 module _ (w : World) (i : Invariant w) (s : Coordinator) (u : w .phase ≡ up s) (o : Order) (way : UnderWay (catalogueOf w) (w .history) s o) where
   abbrev c : Catalogue
@@ -98,7 +98,7 @@ module _ (w : World) (i : Invariant w) (s : Coordinator) (u : w .phase ≡ up s)
   f = its .is-for
 
   formed : wellFormed c (r .content) ≡ true
-  formed = come-record c (recordsOf h) (i .told .come) r (its .there) .0
+  formed = come-record c (recordsOf h) (i .of-history .come) r (its .there) .0
 
   -- ---- the numbers of an order
 
@@ -106,17 +106,17 @@ module _ (w : World) (i : Invariant w) (s : Coordinator) (u : w .phase ≡ up s)
   pid-natural = let (n, e) = well-formed-parts c (r .content) formed .pid-natural in (n, sym (f .pid) ∙ e)
 
   epoch-natural : (n : ℕ) × (o .epoch ≡ pos n)
-  epoch-natural = let (n, e, _) = at-least 0 (r .content .epoch) (come-record c (recordsOf h) (i .told .come) r (its .there) .1 .epoch-natural) in (n, sym (f .epoch) ∙ e)
+  epoch-natural = let (n, e, _) = at-least 0 (r .content .epoch) (come-record c (recordsOf h) (i .of-history .come) r (its .there) .1 .epoch-natural) in (n, sym (f .epoch) ∙ e)
 
   pub verdict-most : o .verdict ≤ 1
   verdict-most = let b = prepare-code (r .content .status) (f .prepare) in omega (arith, f .verdict)
 
   latest-is : latestIn (r .content .name) (recordsOf h) ≡ some r
-  latest-is = for-latest c h (i .told) o r (its .there) f
+  latest-is = for-latest c h (i .of-history) o r (its .there) f
 
   pub place-below : k0 < places
   place-below =
-      let holding = table-latest c (recordsOf h) (i .told .come) (i .told .ends) (r .content .name) (latest-starts c (recordsOf h) (i .told .come) (r .content .name) r latest-is) r latest-is .0 in
+      let holding = table-latest c (recordsOf h) (i .of-history .come) (i .of-history .ends) (r .content .name) (latest-starts c (recordsOf h) (i .of-history .come) (r .content .name) r latest-is) r latest-is .0 in
       subst (λ (k : ℕ). k < places) (its .place) (ltb-true (placeIn c (recordsOf h) (r .content .name)) places holding)
 
   pub position-listed : member (c .all) x ≡ true
@@ -145,10 +145,10 @@ module _ (w : World) (i : Invariant w) (s : Coordinator) (u : w .phase ≡ up s)
       let admitted : admits p (length words) ≡ true = admits-length p (own .reserved) (length words) ∙ eq-eqb (length words) (p .room) (own .room) in
       let (n, n-is) = pid-natural in
       let (m, m-is) = epoch-natural in
-      let row : rowAt (tableOf c (contents (recordsOf h))) k0 ≡ held (r .content) (r .end) = subst (λ (j : ℕ). rowAt (tableOf c (contents (recordsOf h))) j ≡ held (r .content) (r .end)) (its .place) (place-row c (recordsOf h) (i .told .come) (i .told .ends) (r .content .name) r latest-is) in
+      let row : rowAt (tableOf c (contents (recordsOf h))) k0 ≡ held (r .content) (r .end) = subst (λ (j : ℕ). rowAt (tableOf c (contents (recordsOf h))) j ≡ held (r .content) (r .end)) (its .place) (place-row c (recordsOf h) (i .of-history .come) (i .of-history .ends) (r .content .name) r latest-is) in
       let epochs : producerAt p k0 .pid ≡ toNat (o .pid) → producerAt p k0 .epoch ≤ toNat (o .epoch) = λ e.
       let low = subst (λ (l : List Logged). NotAhead (producerAt p k0) (rowAt (tableOf c (contents l)) k0)) view (all .rows .epochs k (omega arith) k0) in
-      let high : producerAt p k0 .epoch ≤ toNat (r .content .epoch) = subst (NotAhead (producerAt p k0)) row low (held-busy c (recordsOf h) (i .told .come) r (its .there)) (e ∙ ap toNat (sym (f .pid))) in
+      let high : producerAt p k0 .epoch ≤ toNat (r .content .epoch) = subst (NotAhead (producerAt p k0)) row low (held-busy c (recordsOf h) (i .of-history .come) r (its .there)) (e ∙ ap toNat (sym (f .pid))) in
       omega (arith, ap toNat (f .epoch)) in
       let low : p .coordinator ≤ toNat (o .coordinator) = omega (arith, leaders-of w i s u x .coordinator, coordinator-is) in
       none-is (markerTests p (length words) k0 (o .pid) (o .epoch) (o .verdict) (o .coordinator)) (
@@ -175,16 +175,16 @@ module _ (w : World) (i : Invariant w) (s : Coordinator) (u : w .phase ≡ up s)
   place-inside = let own = own-at w (i .own) x in let b = place-below in omega (arith, own .reserved .all)
 
   -- the row of another producer stays
-  another : (producerAt p k0 .pid ≡ toNat (o .pid) → ⊥) → (n : ℕ) → Good w (leaderDoes x (note (toNat (o .coordinator)) k0 (producerAt p k0)) (markerWritten o) (toAcknowledge n o) w)
+  another : (producerAt p k0 .pid ≡ toNat (o .pid) → ⊥) → (n : ℕ) → Preserves w (leaderDoes x (note (toNat (o .coordinator)) k0 (producerAt p k0)) (markerWritten o) (toAcknowledge n o) w)
   another d n =
-      led-good w i x below _ (toAcknowledge n o) h still (i .offsets) (i .log-side) (i .acks)
+      leader-preserves w i x below _ (toAcknowledge n o) h still (i .offsets) (i .log-side) (i .acks)
       (record {
         words = i .leaders x .words;
-        rows = rows-same c h (i .told) x p (i .leaders x .rows) (partitionAfter (note (toNat (o .coordinator)) k0 (producerAt p k0)) p) (λ k. ap (λ (l : List Producer). getD l k noProducer) (set-getD (p .producers) k0 noProducer)) (omega arith);
+        rows = rows-same c h (i .of-history) x p (i .leaders x .rows) (partitionAfter (note (toNat (o .coordinator)) k0 (producerAt p k0)) p) (λ k. ap (λ (l : List Producer). getD l k noProducer) (set-getD (p .producers) k0 noProducer)) (omega arith);
         coordinator = subst (λ (y : Phase). toNat (o .coordinator) ≤ epochOf y) (sym u) (omega (arith, coordinator-is));
       })
       (λ y m. i .leaders y)
-      (subst (λ (y : Phase). CarryingSide c h y (toAcknowledge n o)) (sym u) (way, another-none c h (i .told) o r (its .there) f k0 (its .place) x p (i .leaders x .rows) refl d))
+      (subst (λ (y : Phase). CarryingSide c h y (toAcknowledge n o)) (sym u) (way, another-none c h (i .of-history) o r (its .there) f k0 (its .place) x p (i .leaders x .rows) refl d))
 
   module _ (e : producerAt p k0 .pid ≡ toNat (o .pid)) where
     abbrev q : Producer
@@ -209,32 +209,32 @@ module _ (w : World) (i : Invariant w) (s : Coordinator) (u : w .phase ≡ up s)
     others k n = getD-set-other (p .producers) k0 k q noProducer n
 
     -- a row that is not open
-    noted : producerAt p k0 .ongoing ≡ false → (n : ℕ) → Good w (leaderDoes x (note (toNat (o .coordinator)) k0 q) (markerWritten o) (toAcknowledge n o) w)
+    noted : producerAt p k0 .ongoing ≡ false → (n : ℕ) → Preserves w (leaderDoes x (note (toNat (o .coordinator)) k0 q) (markerWritten o) (toAcknowledge n o) w)
     noted d n =
-        led-good w i x below _ (toAcknowledge n o) h still (i .offsets) (i .log-side) (i .acks)
+        leader-preserves w i x below _ (toAcknowledge n o) h still (i .offsets) (i .log-side) (i .acks)
         (record {
           words = i .leaders x .words;
-          rows = rows-noted c h (i .told) o r (its .there) f k0 (its .place) x p (i .leaders x .rows) refl (partitionAfter (note (toNat (o .coordinator)) k0 q) p) q here others q-shut q-pid q-epoch (omega arith) d;
+          rows = rows-noted c h (i .of-history) o r (its .there) f k0 (its .place) x p (i .leaders x .rows) refl (partitionAfter (note (toNat (o .coordinator)) k0 q) p) q here others q-shut q-pid q-epoch (omega arith) d;
           coordinator = subst (λ (y : Phase). toNat (o .coordinator) ≤ epochOf y) (sym u) (omega (arith, coordinator-is));
         })
         (λ y m. i .leaders y)
-        (subst (λ (y : Phase). CarryingSide c h y (toAcknowledge n o)) (sym u) (way, closed-none c h (i .told) o r (its .there) f k0 (its .place) x p (i .leaders x .rows) refl d))
+        (subst (λ (y : Phase). CarryingSide c h y (toAcknowledge n o)) (sym u) (way, closed-none c h (i .of-history) o r (its .there) f k0 (its .place) x p (i .leaders x .rows) refl d))
 
     -- an open one: the marker is written
-    closes : producerAt p k0 .ongoing ≡ true → (n : ℕ) → Good w (leaderDoes x (closeTransaction k0 (producerAt p k0) (toNat (o .epoch)) (o .verdict) (toNat (o .coordinator))) (markerWritten o) (toAcknowledge n o) w)
+    closes : producerAt p k0 .ongoing ≡ true → (n : ℕ) → Preserves w (leaderDoes x (closeTransaction k0 (producerAt p k0) (toNat (o .epoch)) (o .verdict) (toNat (o .coordinator))) (markerWritten o) (toAcknowledge n o) w)
     closes d n =
-        led-good w i x below _ (toAcknowledge n o) (markerWritten o ∷ h) (more still may)
+        leader-preserves w i x below _ (toAcknowledge n o) (markerWritten o ∷ h) (more still may)
         (rw same-entries (i .offsets))
         (log-same c (w .log) (w .phase) h (markerWritten o ∷ h) records flushed (i .log-side))
-        (subst (λ (y : Phase). AcksSide c y (markerWritten o ∷ h)) (sym u) (acks-kept c h s (markerWritten o) (λ y k m z. none-marked c h o y k z) (acks-of w i s u)))
+        (subst (λ (y : Phase). AcksSide c y (markerWritten o ∷ h)) (sym u) (acks-kept c h s (markerWritten o) (λ y k m z. none-open-marked c h o y k z) (acks-of w i s u)))
         (record {
           words = new-words;
-          rows = rows-marked c h (i .told) o r (its .there) f k0 (its .place) x p (i .leaders x .rows) refl (partitionAfter (write (toNat (o .coordinator)) k0 q four) p) q here others q-shut q-pid q-epoch (omega arith);
+          rows = rows-marked c h (i .of-history) o r (its .there) f k0 (its .place) x p (i .leaders x .rows) refl (partitionAfter (write (toNat (o .coordinator)) k0 q four) p) q here others q-shut q-pid q-epoch (omega arith);
           coordinator = subst (λ (y : Phase). toNat (o .coordinator) ≤ epochOf y) (sym u) (omega (arith, coordinator-is));
         })
         (λ y m. record {
-          words = i .leaders y .words ∙ sym (words-quiet y (markerWritten o) h (rw (ne-eqb x y (λ z. m (sym z))) refl));
-          rows = rows-marked-elsewhere c h (i .told) y (leaderAt w y .partition) (i .leaders y .rows) o (λ z. m (sym z));
+          words = i .leaders y .words ∙ sym (words-same y (markerWritten o) h (rw (ne-eqb x y (λ z. m (sym z))) refl));
+          rows = rows-marked-elsewhere c h (i .of-history) y (leaderAt w y .partition) (i .leaders y .rows) o (λ z. m (sym z));
           coordinator = i .leaders y .coordinator;
         })
         (subst (λ (y : Phase). CarryingSide c (markerWritten o ∷ h) y (toAcknowledge n o)) (sym u) (way-same c h (markerWritten o ∷ h) s o records flushed way, none-left))
@@ -252,14 +252,14 @@ module _ (w : World) (i : Invariant w) (s : Coordinator) (u : w .phase ≡ up s)
         flushed = unfold flushedOf in refl
 
         same-entries : entriesOf (markerWritten o ∷ h) ≡ entriesOf h
-        same-entries = before-quiet producedIn (markerWritten o) h refl
+        same-entries = collect-before-same producedIn (markerWritten o) h refl
 
         may : Markable h o
         may =
             record {
               for-prepare = found-is (IsFor o h) (its .found) f;
               some-open = λ z. i .leaders x .rows .row-entry k (omega arith) k0 d
-                  (in-each _ (entriesOf h) (λ y j a b g. each-in (λ (y : Entry). y .what .position ≡ o .position → y .what .pid ≡ o .pid → underOf h y ≡ 0 → ⊥) (entriesOf h) y z j a (place-pid c h (i .told) o r (its .there) f k0 (its .place) k (omega arith) y j b g) b));
+                  (in-each _ (entriesOf h) (λ y j a b g. each-in (λ (y : Entry). y .what .position ≡ o .position → y .what .pid ≡ o .pid → underOf h y ≡ 0 → ⊥) (entriesOf h) y z j a (place-pid c h (i .of-history) o r (its .there) f k0 (its .place) k (omega arith) y j b g) b));
             }
 
         four : List ℕ
@@ -277,9 +277,9 @@ module _ (w : World) (i : Invariant w) (s : Coordinator) (u : w .phase ≡ up s)
 
         none-left : NoneOpen c (markerWritten o ∷ h) (recordsOf (markerWritten o ∷ h)) x k0
         none-left =
-            rw (records, same-entries) (in-each _ (entriesOf h) (λ y j a b g. marked-none c h (i .told) o r (its .there) f k0 (its .place) k (omega arith) y j a (ap (λ (l : List Logged). placeIn c l (y .what .name)) view ∙ g) b))
+            rw (records, same-entries) (in-each _ (entriesOf h) (λ y j a b g. marked-none c h (i .of-history) o r (its .there) f k0 (its .place) k (omega arith) y j a (ap (λ (l : List Logged). placeIn c l (y .what .name)) view ∙ g) b))
 
-  pub delivers-own : (n : ℕ) → Good w (leaderDoes x (marker p (length words) k0 (o .pid) (o .epoch) (o .verdict) (o .coordinator) .action) (markerWritten o) (onceDone (reply (marker p (length words) k0 (o .pid) (o .epoch) (o .verdict) (o .coordinator) .answer)) n o) w)
+  pub delivers-own : (n : ℕ) → Preserves w (leaderDoes x (marker p (length words) k0 (o .pid) (o .epoch) (o .verdict) (o .coordinator) .action) (markerWritten o) (onceDone (reply (marker p (length words) k0 (o .pid) (o .epoch) (o .verdict) (o .coordinator) .answer)) n o) w)
   delivers-own n =
       either (eqb (producerAt p k0 .pid) (toNat (o .pid)))
       (λ a. let e = eqb-true (producerAt p k0 .pid) (toNat (o .pid)) a in

@@ -41,16 +41,16 @@ use Rattle.writer.proofs.Lawful.{Ready}
 use Rattle.runs.specs.World.{isAck}
 
 -- what a name's row must be for a record of it to be appended
-pub record Follows (s : Coordinator) (name : List ℕ) : Type 0 where
+pub record MayFollow (s : Coordinator) (name : List ℕ) : Type 0 where
   pub flushed : unflushed (s .flushed) (rowAt (s .table) (placeOf (s .table) name)) ≡ false
   pub unprepared : isPrepare (rowAt (s .table) (placeOf (s .table) name) .status) ≡ false
 
-abbrev pub Settled : Coordinator → Action → Type 0
-Settled s keep = Unit {0}
-Settled s (advance clock) = Unit {0}
-Settled s (append place row) = Follows s (row .name)
-Settled s (acknowledge place position) = ⊥
-Settled s (flushTo n) = Unit {0}
+abbrev pub FlushedFirst : Coordinator → Action → Type 0
+FlushedFirst s keep = Unit {0}
+FlushedFirst s (advance clock) = Unit {0}
+FlushedFirst s (append place row) = MayFollow s (row .name)
+FlushedFirst s (acknowledge place position) = ⊥
+FlushedFirst s (flushTo n) = Unit {0}
 
 begin-prepare : (s : Status) → isBegin s ≡ true → isPrepare s ≡ false
 begin-prepare s b = ap isPrepare (is-begin s b)
@@ -67,59 +67,59 @@ module _ (s : Coordinator) (r : Ready s) where
 
   -- over a row that is held
   over : (k : ℕ) → free (rowAt (s .table) k) ≡ false → unflushed (s .flushed) (rowAt (s .table) k) ≡ false → isPrepare (rowAt (s .table) k .status) ≡ false → (name : List ℕ) → name ≡ rowAt (s .table) k .name
-      → Follows s name
+      → MayFollow s name
   over k f u p name e = let q : placeOf (s .table) name ≡ k = rw e (own-place k f) in record { flushed = rw q u; unprepared = rw q p }
 
   begun-held : (k : ℕ) → isBegin (rowAt (s .table) k .status) ≡ true → free (rowAt (s .table) k) ≡ false
   begun-held k b = busy-held (rowAt (s .table) k) (proper .each k) (begin-busy (rowAt (s .table) k .status) b)
 
-  init-settled : (n : ℕ) (name : List ℕ) (timeout time : ℤ) → Settled s (init s n name timeout time .action)
+  init-flushed-first : (n : ℕ) (name : List ℕ) (timeout time : ℤ) → FlushedFirst s (init s n name timeout time .action)
   unfolding init initAccepted initRow
-  init-settled n name timeout time =
-      unless-does (firstRefusal (initTests s n name timeout time)) InitRefused keep (initAccepted s name timeout time) (Settled s) tt
+  init-flushed-first n name timeout time =
+      unless-does (firstRefusal (initTests s n name timeout time)) InitRefused keep (initAccepted s name timeout time) (FlushedFirst s) tt
       (λ e.
       let p = init-passed s n name timeout time e in
-      by-cases (λ (d : Decision InitAnswer Action). Settled s (d .action)) (isBegin (rowOf s name .status))
+      by-cases (λ (d : Decision InitAnswer Action). FlushedFirst s (d .action)) (isBegin (rowOf s name .status))
       (λ b. over (placeOfName s name) (begun-held (placeOfName s name) b) (p .flushed) (p .unprepared) (rowOf s name .name) refl)
-      (λ b. by-cases (λ (row : Row). Follows s (row .name)) (needsPid (holdsName s name) (rowOf s name)) (λ q. record { flushed = p .flushed; unprepared = p .unprepared }) (λ q. record { flushed = p .flushed; unprepared = p .unprepared })))
+      (λ b. by-cases (λ (row : Row). MayFollow s (row .name)) (needsPid (holdsName s name) (rowOf s name)) (λ q. record { flushed = p .flushed; unprepared = p .unprepared }) (λ q. record { flushed = p .flushed; unprepared = p .unprepared })))
 
-  add-settled : (n : ℕ) (name : List ℕ) (pid epoch : ℤ) (set : ℕ) (time : ℤ) → Settled s (add s n name pid epoch set time .action)
+  add-flushed-first : (n : ℕ) (name : List ℕ) (pid epoch : ℤ) (set : ℕ) (time : ℤ) → FlushedFirst s (add s n name pid epoch set time .action)
   unfolding add addAction addRow
-  add-settled n name pid epoch set time =
-      unless-does (firstRefusal (addTests s n name pid epoch set time)) Refused keep _ (Settled s) tt
+  add-flushed-first n name pid epoch set time =
+      unless-does (firstRefusal (addTests s n name pid epoch set time)) Refused keep _ (FlushedFirst s) tt
       (λ e.
       let p = add-passed s n name pid epoch set time e in
       let f = held-row s (proper .all) name (p .named) (p .held) in
-      by-cases (Settled s) (allJoined (rowOf s name) set) (λ j. tt)
-      (λ j. by-cases (λ (row : Row). Follows s (row .name)) (isBegin (rowOf s name .status)) (λ b. over (placeOfName s name) f (p .flushed) (p .unprepared) (rowOf s name .name) refl) (λ b. over (placeOfName s name) f (p .flushed) (p .unprepared) (rowOf s name .name) refl)))
+      by-cases (FlushedFirst s) (allJoined (rowOf s name) set) (λ j. tt)
+      (λ j. by-cases (λ (row : Row). MayFollow s (row .name)) (isBegin (rowOf s name .status)) (λ b. over (placeOfName s name) f (p .flushed) (p .unprepared) (rowOf s name .name) refl) (λ b. over (placeOfName s name) f (p .flushed) (p .unprepared) (rowOf s name .name) refl)))
 
-  end-settled : (n : ℕ) (name : List ℕ) (pid epoch : ℤ) (verdict : ℕ) (time : ℤ) → Settled s (end s n name pid epoch verdict time .action)
+  end-flushed-first : (n : ℕ) (name : List ℕ) (pid epoch : ℤ) (verdict : ℕ) (time : ℤ) → FlushedFirst s (end s n name pid epoch verdict time .action)
   unfolding end endAction
-  end-settled n name pid epoch verdict time =
-      unless-does (firstRefusal (endTests s n name pid epoch verdict)) Refused keep _ (Settled s) tt
+  end-flushed-first n name pid epoch verdict time =
+      unless-does (firstRefusal (endTests s n name pid epoch verdict)) Refused keep _ (FlushedFirst s) tt
       (λ e.
       let p = end-passed s n name pid epoch verdict time e in
-      by-cases (Settled s) (isBegin (rowOf s name .status)) (λ b. over (placeOfName s name) (begun-held (placeOfName s name) b) (p .flushed) (p .unprepared) (rowOf s name .name) refl) (λ b. tt))
+      by-cases (FlushedFirst s) (isBegin (rowOf s name .status)) (λ b. over (placeOfName s name) (begun-held (placeOfName s name) b) (p .flushed) (p .unprepared) (rowOf s name .name) refl) (λ b. tt))
 
-  tick-settled : (n : ℕ) (time : ℤ) → Settled s (tick s n time .action)
+  tick-flushed-first : (n : ℕ) (time : ℤ) → FlushedFirst s (tick s n time .action)
   unfolding tick tickAccepted
-  tick-settled n time =
-      unless-does (firstRefusal (tickTests s n)) TickRefused keep (tickAccepted s time) (Settled s) tt
-      (λ e. by-cases (λ (d : Decision TickAnswer Action). Settled s (d .action)) (ltb place places)
+  tick-flushed-first n time =
+      unless-does (firstRefusal (tickTests s n)) TickRefused keep (tickAccepted s time) (FlushedFirst s) tt
+      (λ e. by-cases (λ (d : Decision TickAnswer Action). FlushedFirst s (d .action)) (ltb place places)
       (λ l. let o = overdue-found s (clockAt s time) (proper .all) (ltb-true place places l) in over place (begun-held place (o .begins)) (o .flushed) (begin-prepare (rowAt (s .table) place .status) (o .begins)) (rowAt (s .table) place .name) refl)
       (λ l. tt))
     where
       place : ℕ
       place = overduePlace s (clockAt s time)
 
-  flush-settled : (n : ℕ) → Settled s (flush s n .action)
+  flush-flushed-first : (n : ℕ) → FlushedFirst s (flush s n .action)
   unfolding flush
-  flush-settled n = unless-does (firstRefusal (flushTests s n)) Refused keep _ (Settled s) tt (λ e. tt)
+  flush-flushed-first n = unless-does (firstRefusal (flushTests s n)) Refused keep _ (FlushedFirst s) tt (λ e. tt)
 
-  pub call-settled : (n : ℕ) (c : CoordinatorCall) → isAck c ≡ false → Settled s (actionOf c s n)
-  call-settled n (initCall name timeout time) b = init-settled n name timeout time
-  call-settled n (addCall name pid epoch set time) b = add-settled n name pid epoch set time
-  call-settled n (endCall name pid epoch verdict time) b = end-settled n name pid epoch verdict time
-  call-settled n (tickCall time) b = tick-settled n time
-  call-settled n (flushCall length) b = flush-settled length
-  call-settled n (ackCall place pid epoch position) b = not-both b refl
+  pub call-flushed-first : (n : ℕ) (c : CoordinatorCall) → isAck c ≡ false → FlushedFirst s (actionOf c s n)
+  call-flushed-first n (initCall name timeout time) b = init-flushed-first n name timeout time
+  call-flushed-first n (addCall name pid epoch set time) b = add-flushed-first n name pid epoch set time
+  call-flushed-first n (endCall name pid epoch verdict time) b = end-flushed-first n name pid epoch verdict time
+  call-flushed-first n (tickCall time) b = tick-flushed-first n time
+  call-flushed-first n (flushCall length) b = flush-flushed-first length
+  call-flushed-first n (ackCall place pid epoch position) b = not-both b refl

@@ -29,7 +29,7 @@ use Rattle.runs.specs.Demand3.{IsFor}
 use Rattle.runs.proofs.Admitted.{Own}
 use Rattle.protocol.specs.RecordsOfName.{AtEveryCut}
 use Rattle.protocol.specs.Entries.{Entry, entriesOf, underOf}
-use Rattle.protocol.specs.HistoryInvariant.{Told}
+use Rattle.protocol.specs.HistoryInvariant.{HistoryInvariant}
 
 -- ---- the log side
 
@@ -125,7 +125,7 @@ CarryingSide c h (down n before) (toAcknowledge i o) = ⊥
 pub record Invariant (w : World) : Type 0 where
   pub parsed : parse (w .text) .refusal ≡ 0
   -- the order side
-  pub told : Told (catalogueOf w) (w .history)
+  pub of-history : HistoryInvariant (catalogueOf w) (w .history)
   pub offsets : Each (λ (p : Entry). entryWords * p .what .offset ≡ length (wordsOf (p .what .position) (p .before))) (entriesOf (w .history))
   -- the log side
   pub log-side : LogSide (catalogueOf w) (w .log) (w .phase) (w .history)

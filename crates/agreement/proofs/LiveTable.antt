@@ -24,7 +24,7 @@ use Rattle.coordinator.specs.declared.Coordinator.{Coordinator}
 use Rattle.writer.proofs.Lawful.{Ready, ComesNext}
 use Rattle.writer.proofs.Written.{written-ready, written-end}
 use Rattle.runs.specs.History.{History, Logged, recordsOf, contents, endOf, flushedOf, isFlushed, latestOf, isOf}
-use Rattle.protocol.specs.HistoryInvariant.{Told}
+use Rattle.protocol.specs.HistoryInvariant.{HistoryInvariant}
 use Rattle.protocol.specs.NextEvent.{NothingOpen, Appendable}
 use Rattle.protocol.proofs.Lists.{if-found-cases, find-in}
 use Rattle.protocol.proofs.Records.{come-record, ends-length, latest-name, table-latest, table-lacks}
@@ -32,7 +32,7 @@ use Rattle.protocol.proofs.ProducerIds.{option-either}
 use Rattle.agreement.proofs.Invariant.{UpLog, placeIn}
 use Rattle.agreement.proofs.FlushedFirst.{own-place}
 
-module _ (c : Catalogue) (log : List ℕ) (s : Coordinator) (h : History) (u : UpLog c log s h) (t : Told c h) where
+module _ (c : Catalogue) (log : List ℕ) (s : Coordinator) (h : History) (u : UpLog c log s h) (t : HistoryInvariant c h) where
   pub live-ready : Ready s
   live-ready = written-ready c log s (contents (recordsOf h)) (u .written)
 
@@ -60,15 +60,15 @@ module _ (c : Catalogue) (log : List ℕ) (s : Coordinator) (h : History) (u : U
   live-holds name x e = ap (λ (k : ℕ). ltb k places) (live-place name) ∙ table-latest c (recordsOf h) (t .come) (t .ends) name (starts-of name x e) x e .0
 
   -- the record of a place
-  pub record Stands (k : ℕ) : Type 0 where
+  pub record RecordAt (k : ℕ) : Type 0 where
     pub latest : Logged
     pub is : latestOf (rowAt (s .table) k .name) h ≡ some latest
     pub row : withAcknowledged (rowAt (s .table) k) 0 ≡ held (latest .content) (latest .end)
     pub place : placeIn c (recordsOf h) (rowAt (s .table) k .name) ≡ k
     pub starts : Starts (rowAt (s .table) k .name)
 
-  pub live-stands : (k : ℕ) → free (rowAt (s .table) k) ≡ false → Stands k
-  live-stands k f =
+  pub live-record-at : (k : ℕ) → free (rowAt (s .table) k) ≡ false → RecordAt k
+  live-record-at k f =
       let name = rowAt (s .table) k .name in
       let starts : Starts name = λ z. eqb-false (getD name 0 0) 0 f z in
       let own = own-place s live-ready k f in

@@ -23,17 +23,17 @@ use Rattle.answers.specs.declared.OpenAnswer.the-variants.{Opened}
 use Rattle.log_reader.specs.Read.{logRead}
 use Rattle.writer.specs.Writer.{openingTyped, outOfOrder}
 use Rattle.writer.proofs.Decisions.{Decided}
-use Rattle.writer.proofs.Lawful.{Lawful, decided-lawful}
+use Rattle.writer.proofs.Lawful.{Lawful}
 use Rattle.writer.proofs.Written.{Written, recordsAfter, written-acts, written-end}
 use Rattle.writer.proofs.Reopening.{written-taken, written-opens, written-restarts}
 use Rattle.runs.specs.History.{History, logFlushed, logCut, logOpened, recordsOf, contents, endOf, flushedOf}
 use Rattle.runs.specs.World.{historyAfter}
-use Rattle.protocol.specs.HistoryInvariant.{Told}
+use Rattle.protocol.specs.HistoryInvariant.{HistoryInvariant}
 use Rattle.protocol.specs.NextEvent.{NothingOpen, MayBeNext}
 use Rattle.protocol.proofs.Records.{ending-end, ending-whole, ends-length}
-use Rattle.protocol.proofs.Extends.{Grown, still, more}
+use Rattle.protocol.proofs.Extends.{Extends, still, more}
 use Rattle.agreement.proofs.Invariant.{UpLog, DownLog}
-use Rattle.agreement.proofs.LiveTable.{live-ready, live-end, append-may}
+use Rattle.agreement.proofs.LiveTable.{live-end, append-may}
 
 -- ---- an action
 
@@ -54,16 +54,16 @@ flushed-after (acknowledgeAt place position) s h e = e
 flushed-after (flushTo n) s h e = refl
 
 -- what is appended follows a flushed record, and a prepare only when nothing of its name is open
-abbrev pub AppendsWell : Coordinator → History → Action → Type 0
-AppendsWell s h keep = Unit {0}
-AppendsWell s h (advance clock) = Unit {0}
-AppendsWell s h (append place row) =
+abbrev pub MayAppend : Coordinator → History → Action → Type 0
+MayAppend s h keep = Unit {0}
+MayAppend s h (advance clock) = Unit {0}
+MayAppend s h (append place row) =
     (unflushed (s .flushed) (rowAt (s .table) (placeOf (s .table) (row .name))) ≡ false)
     × (isPrepare (rowAt (s .table) (placeOf (s .table) (row .name)) .status) ≡ true → NothingOpen (row .name) h)
-AppendsWell s h (acknowledgeAt place position) = Unit {0}
-AppendsWell s h (flushTo n) = Unit {0}
+MayAppend s h (acknowledgeAt place position) = Unit {0}
+MayAppend s h (flushTo n) = Unit {0}
 
-module _ (c : Catalogue) (log : List ℕ) (s : Coordinator) (h : History) (u : UpLog c log s h) (t : Told c h) where
+module _ (c : Catalogue) (log : List ℕ) (s : Coordinator) (h : History) (u : UpLog c log s h) (t : HistoryInvariant c h) where
   pub up-acts : (a : Action) → Decided s (length log) a → UpLog c (logAfter a s log) (after a s) (historyAfter a s h)
   up-acts a d =
       record {
@@ -71,12 +71,12 @@ module _ (c : Catalogue) (log : List ℕ) (s : Coordinator) (h : History) (u : U
         flushed = flushed-after a s h (u .flushed);
       }
 
-  pub up-grown-by : (a : Action) → Lawful s a → AppendsWell s h a → Grown c h (historyAfter a s h)
-  up-grown-by keep l w = still
-  up-grown-by (advance clock) l w = still
-  up-grown-by (append place row) l (f, p) = more still (append-may c log s h u t place row l f p)
-  up-grown-by (acknowledgeAt place position) l w = still
-  up-grown-by (flushTo n) (rises, within) w = more {e = logFlushed n} still (subst (λ (k : ℕ). k ≤ n) (u .flushed) rises)
+  pub up-extends : (a : Action) → Lawful s a → MayAppend s h a → Extends c h (historyAfter a s h)
+  up-extends keep l w = still
+  up-extends (advance clock) l w = still
+  up-extends (append place row) l (f, p) = more still (append-may c log s h u t place row l f p)
+  up-extends (acknowledgeAt place position) l w = still
+  up-extends (flushTo n) (rises, within) w = more {e = logFlushed n} still (subst (λ (k : ℕ). k ≤ n) (u .flushed) rises)
 
   -- ---- a cut
 
@@ -105,7 +105,7 @@ module _ (c : Catalogue) (log : List ℕ) (s : Coordinator) (h : History) (u : U
 
 -- ---- an opening after a cut
 
-module _ (text log : List ℕ) (p : parse text .refusal ≡ 0) (n : ℕ) (h : History) (d : DownLog (parse text .catalogue) log n h) (t : Told (parse text .catalogue) h) where
+module _ (text log : List ℕ) (p : parse text .refusal ≡ 0) (n : ℕ) (h : History) (d : DownLog (parse text .catalogue) log n h) (t : HistoryInvariant (parse text .catalogue) h) where
   abbrev c : Catalogue
   c = parse text .catalogue
 

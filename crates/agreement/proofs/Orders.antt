@@ -36,26 +36,26 @@ use Rattle.runs.specs.Demand3.{IsFor}
 use Rattle.protocol.specs.NextEvent.{MayBeNext}
 use Rattle.protocol.proofs.Lists.{found-is, found-with, In, find-in, either}
 use Rattle.protocol.proofs.Records.{latest-name, latest-last, come-record}
-use Rattle.protocol.proofs.Entries.{before-quiet}
-use Rattle.protocol.proofs.NextEvent.{Quiet, given-quiet, prepare-idle}
-use Rattle.protocol.proofs.Extends.{still, more, told-grown, kept-stands}
+use Rattle.protocol.proofs.Entries.{collect-before-same}
+use Rattle.protocol.proofs.NextEvent.{WritesNothing, given-writes-nothing, prepare-idle}
+use Rattle.protocol.proofs.Extends.{still, more, extends-keeps, kept-stands}
 use Rattle.agreement.proofs.Invariant.{epochOf, placeIn, AcksSide, UnderWay, CarryingSide, Invariant}
 use Rattle.agreement.proofs.FlushedFirst.{proper}
-use Rattle.agreement.proofs.LiveTable.{live-ready, live-stands, Stands}
-use Rattle.agreement.proofs.Acknowledgements.{none-quiet, acks-kept}
-use Rattle.agreement.proofs.Preserves.{Good, log-same, leader-quiet, log-of, acks-of, idles}
+use Rattle.agreement.proofs.LiveTable.{live-ready, live-record-at, RecordAt}
+use Rattle.agreement.proofs.Acknowledgements.{none-open-kept, acks-kept}
+use Rattle.agreement.proofs.Preserves.{Preserves, log-same, leader-unwritten, log-of, acks-of, idles}
 
 -- ---- an event beside records and entries
 
-pub record Beside (h : History) (e : Event) : Type 0 where
-  pub quiet : Quiet h e
+pub record OrderOnly (h : History) (e : Event) : Type 0 where
+  pub writes-nothing : WritesNothing h e
   pub no-words : (x : ℕ) → wordsIn x e ≡ []
   pub records : recordsOf (e ∷ h) ≡ recordsOf h
   pub flushed : flushedOf (e ∷ h) ≡ flushedOf h
 
-pub acks-beside : (c : Catalogue) (p : Phase) (h : History) (e : Event) → Beside h e → AcksSide c p h → AcksSide c p (e ∷ h)
-acks-beside c (up s) h e b a = acks-kept c h s e (λ x k m n. none-quiet c h e (b .quiet .no-entry) (b .quiet .no-kind) (b .records) x k n) a
-acks-beside c (down n before) h e b a = tt
+pub acks-order-only : (c : Catalogue) (p : Phase) (h : History) (e : Event) → OrderOnly h e → AcksSide c p h → AcksSide c p (e ∷ h)
+acks-order-only c (up s) h e b a = acks-kept c h s e (λ x k m n. none-open-kept c h e (b .writes-nothing .no-entry) (b .writes-nothing .no-kind) (b .records) x k n) a
+acks-order-only c (down n before) h e b a = tt
 
 pub for-same : (o : Order) (h v : History) (q : Logged) → recordsOf v ≡ recordsOf h → flushedOf v ≡ flushedOf h → IsFor o h q → IsFor o v q
 for-same o h v q r f i =
@@ -79,23 +79,23 @@ way-same c h v s o r f u =
     }
 
 -- it is good, if it may come and what is carried then is in order
-pub beside-good : (w : World) → Invariant w → (e : Event) → Beside (w .history) e → MayBeNext (catalogueOf w) (w .history) e → (k : Carrying) → CarryingSide (catalogueOf w) (e ∷ w .history) (w .phase) k
-    → Good w (withCarrying (withEvent w e) k)
-beside-good w i e b m k d =
+pub order-only-preserves : (w : World) → Invariant w → (e : Event) → OrderOnly (w .history) e → MayBeNext (catalogueOf w) (w .history) e → (k : Carrying) → CarryingSide (catalogueOf w) (e ∷ w .history) (w .phase) k
+    → Preserves w (withCarrying (withEvent w e) k)
+order-only-preserves w i e b m k d =
     let c = catalogueOf w in
     let h = w .history in
     record {
       same-text = refl;
-      grown = more still m;
+      extends = more still m;
       holds = λ o. record {
         parsed = i .parsed;
-        told = told-grown c h (i .told) (more still m);
-        offsets = rw (before-quiet producedIn e h (b .quiet .no-entry)) (i .offsets);
+        of-history = extends-keeps c h (i .of-history) (more still m);
+        offsets = rw (collect-before-same producedIn e h (b .writes-nothing .no-entry)) (i .offsets);
         log-side = log-same c (w .log) (w .phase) h (e ∷ h) (b .records) (b .flushed) (i .log-side);
-        acks = acks-beside c (w .phase) h e b (i .acks);
+        acks = acks-order-only c (w .phase) h e b (i .acks);
         own = record { of-log = o .of-log; of-words = o .of-words };
         count = i .count;
-        leaders = λ x. leader-quiet c h (i .told) e (b .quiet) (b .no-words) (epochOf (w .phase)) x (leaderAt w x) (i .leaders x);
+        leaders = λ x. leader-unwritten c h (i .of-history) e (b .writes-nothing) (b .no-words) (epochOf (w .phase)) x (leaderAt w x) (i .leaders x);
         carried = d;
       };
     }
@@ -111,7 +111,7 @@ prepare-verdict =
 pub prepare-held : (w : World) (i : Invariant w) (s : Coordinator) (u : w .phase ≡ up s) (k : ℕ) → isPrepare (rowAt (s .table) k .status) ≡ true → free (rowAt (s .table) k) ≡ false
 prepare-held w i s u k p =
     let busy : idle (rowAt (s .table) k .status) ≡ false = either (idle (rowAt (s .table) k .status)) (λ e. absurd (prepare-idle (rowAt (s .table) k .status) p e)) (λ e. e) in
-    busy-held (rowAt (s .table) k) (proper s (live-ready (catalogueOf w) (w .log) s (w .history) (log-of w i s u) (i .told)) .each k) busy
+    busy-held (rowAt (s .table) k) (proper s (live-ready (catalogueOf w) (w .log) s (w .history) (log-of w i s u) (i .of-history)) .each k) busy
 
 module _ (w : World) (i : Invariant w) (s : Coordinator) (u : w .phase ≡ up s) (set : ℕ) (place : ℕ) (o : Ordered s set (rowAt (s .table) place)) where
   abbrev c : Catalogue
@@ -135,8 +135,8 @@ module _ (w : World) (i : Invariant w) (s : Coordinator) (u : w .phase ≡ up s)
         for = orderedRecord s place h;
       }
 
-  st : Stands c (w .log) s h (log-of w i s u) (i .told) place
-  st = live-stands c (w .log) s h (log-of w i s u) (i .told) place (prepare-held w i s u place (o .prepares))
+  st : RecordAt c (w .log) s h (log-of w i s u) (i .of-history) place
+  st = live-record-at c (w .log) s h (log-of w i s u) (i .of-history) place (prepare-held w i s u place (o .prepares))
 
   abbrev q : Logged
   q = st .latest
@@ -145,7 +145,7 @@ module _ (w : World) (i : Invariant w) (s : Coordinator) (u : w .phase ≡ up s)
   there = find-in _ (recordsOf h) q (st .is)
 
   sound : (wellFormed c (q .content) ≡ true) × NotNegative (q .content)
-  sound = come-record c (recordsOf h) (i .told .come) q there
+  sound = come-record c (recordsOf h) (i .of-history .come) q there
 
   back : recordOf (held (q .content) (q .end)) ≡ q .content
   back = record-back c (q .content) (q .end) (sound .0) (sound .1)
@@ -177,7 +177,7 @@ module _ (w : World) (i : Invariant w) (s : Coordinator) (u : w .phase ≡ up s)
       record {
         prepare = sym (ap (λ (r : Row). isPrepare (r .status)) (st .row)) ∙ o .prepares;
         flushed = le-leb (q .end) (flushedOf h) (let e : row .end ≡ q .end = ap (λ (r : Row). r .end) (st .row) in let l = ltb-false (s .flushed) (row .end) (o .flushed) in omega (arith, log-of w i s u .flushed));
-        latest = latest-last q (length h) (recordsOf h) (i .told .numbered) (subst (λ (n : List ℕ). latestOf n h ≡ some q) (sym same-name) (st .is));
+        latest = latest-last q (length h) (recordsOf h) (i .of-history .numbered) (subst (λ (n : List ℕ). latestOf n h ≡ some q) (sym same-name) (st .is));
         pid = sym (ap (λ (r : Record). r .pid) back) ∙ sym (ap (λ (r : Row). signedOf w64 (r .pid)) (st .row));
         epoch = sym (ap (λ (r : Record). r .epoch) back) ∙ sym (ap (λ (r : Row). signedOf w16 (r .epoch)) (st .row));
         verdict = sym (ap (λ (r : Row). statusCode (r .status)) (st .row)) ∙ prepare-verdict (row .status) (o .prepares);
@@ -185,7 +185,7 @@ module _ (w : World) (i : Invariant w) (s : Coordinator) (u : w .phase ≡ up s)
       }
 
   found-for : recordNumbered (given .for) h ≡ some q
-  found-for = ap (λ (n : ℕ). recordNumbered n h) number-is ∙ kept-stands c h (i .told) q there
+  found-for = ap (λ (n : ℕ). recordNumbered n h) number-is ∙ kept-stands c h (i .of-history) q there
 
   under-way : UnderWay c h s given
   under-way =
@@ -195,17 +195,17 @@ module _ (w : World) (i : Invariant w) (s : Coordinator) (u : w .phase ≡ up s)
         waits = position-left .1;
       }
 
-  beside : Beside h (orderGiven given)
-  beside = record { quiet = given-quiet h given; no-words = λ x. refl; records = unfold recordsOf in refl; flushed = unfold flushedOf in refl }
+  order-only : OrderOnly h (orderGiven given)
+  order-only = record { writes-nothing = given-writes-nothing h given; no-words = λ x. refl; records = unfold recordsOf in refl; flushed = unfold flushedOf in refl }
 
-  gives : Good w (withCarrying (withEvent w (orderGiven given)) (toDeliver (length h) given))
+  gives : Preserves w (withCarrying (withEvent w (orderGiven given)) (toDeliver (length h) given))
   gives =
-      beside-good w i (orderGiven given) beside (found-is (IsFor given h) found-for is-for) (toDeliver (length h) given)
-      (subst (λ (p : Phase). CarryingSide c (orderGiven given ∷ h) p (toDeliver (length h) given)) (sym u) (way-same c h (orderGiven given ∷ h) s given (beside .records) (beside .flushed) under-way))
+      order-only-preserves w i (orderGiven given) order-only (found-is (IsFor given h) found-for is-for) (toDeliver (length h) given)
+      (subst (λ (p : Phase). CarryingSide c (orderGiven given ∷ h) p (toDeliver (length h) given)) (sym u) (way-same c h (orderGiven given ∷ h) s given (order-only .records) (order-only .flushed) under-way))
 
-pub orders : (w : World) (i : Invariant w) (s : Coordinator) (u : w .phase ≡ up s) (set : ℕ) → Good w (orderAnswered (order s set) s w)
+pub orders : (w : World) (i : Invariant w) (s : Coordinator) (u : w .phase ≡ up s) (set : ℕ) → Preserves w (orderAnswered (order s set) s w)
 orders w i s u set =
-    let all = proper s (live-ready (catalogueOf w) (w .log) s (w .history) (log-of w i s u) (i .told)) .all in
+    let all = proper s (live-ready (catalogueOf w) (w .log) s (w .history) (log-of w i s u) (i .of-history)) .all in
     either (ltb (orderPlace s set) places)
     (λ e. let l = ltb-true (orderPlace s set) places e in rw (order-given s set l) (gives w i s u set (orderPlace s set) (order-found s set all l)))
     (λ e. rw (order-none s set (ltb-false (orderPlace s set) places e)) (idles w i))

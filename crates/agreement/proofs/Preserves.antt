@@ -22,21 +22,21 @@ use Rattle.runs.specs.History.{Event, recordAppended, logFlushed, History, prod
 use Rattle.runs.specs.World.{Leader, Phase, up, down, nothing, World, catalogueOf, leaderAt, withCarrying, historyAfter, coordinatorDoes, isAck}
 use Rattle.runs.proofs.Admitted.{Own}
 use Rattle.protocol.specs.Entries.{entriesOf}
-use Rattle.protocol.specs.HistoryInvariant.{Told}
-use Rattle.protocol.proofs.Entries.{before-quiet}
-use Rattle.protocol.proofs.NextEvent.{Quiet, flush-quiet}
-use Rattle.protocol.proofs.Extends.{Grown, still, told-grown}
+use Rattle.protocol.specs.HistoryInvariant.{HistoryInvariant}
+use Rattle.protocol.proofs.Entries.{collect-before-same}
+use Rattle.protocol.proofs.NextEvent.{WritesNothing, flush-writes-nothing}
+use Rattle.protocol.proofs.Extends.{Extends, still, extends-keeps}
 use Rattle.agreement.proofs.Invariant.{UpLog, LogSide, LeaderAgrees, epochOf, AcksAgree, AcksSide, CarryingSide, Invariant}
-use Rattle.agreement.proofs.FlushedFirst.{Settled, call-settled, proper}
+use Rattle.agreement.proofs.FlushedFirst.{FlushedFirst, call-flushed-first, proper}
 use Rattle.agreement.proofs.LiveTable.{live-ready, append-may}
-use Rattle.agreement.proofs.LogSteps.{AppendsWell, up-acts, up-grown-by}
-use Rattle.agreement.proofs.Rows.{rows-quiet, rows-append}
-use Rattle.agreement.proofs.Acknowledgements.{none-quiet, acks-kept, acks-rows, acks-appended}
-use Rattle.agreement.proofs.Words.{words-quiet}
+use Rattle.agreement.proofs.LogSteps.{MayAppend, up-acts, up-extends}
+use Rattle.agreement.proofs.Rows.{rows-unwritten, rows-append}
+use Rattle.agreement.proofs.Acknowledgements.{none-open-kept, acks-kept, acks-rows, acks-appended}
+use Rattle.agreement.proofs.Words.{words-same}
 
-pub record Good (w v : World) : Type 0 where
+pub record Preserves (w v : World) : Type 0 where
   pub same-text : v .text ≡ w .text
-  pub grown : Grown (catalogueOf w) (w .history) (v .history)
+  pub extends : Extends (catalogueOf w) (w .history) (v .history)
   pub holds : Own v → Invariant v
 
 -- ---- the same records
@@ -63,24 +63,24 @@ none-carried c h (up s) = tt
 none-carried c h (down n before) = tt
 
 -- an event that writes no entry
-pub leader-quiet : (c : Catalogue) (h : History) → Told c h → (e : Event) → Quiet h e → ((x : ℕ) → wordsIn x e ≡ []) → (epoch x : ℕ) (l : Leader) → LeaderAgrees c h epoch x l → LeaderAgrees c (e ∷ h) epoch x l
-leader-quiet c h t e q n epoch x l a =
-    record { words = a .words ∙ sym (words-quiet x e h (n x)); rows = rows-quiet c h t x (l .partition) (a .rows) e q; coordinator = a .coordinator }
+pub leader-unwritten : (c : Catalogue) (h : History) → HistoryInvariant c h → (e : Event) → WritesNothing h e → ((x : ℕ) → wordsIn x e ≡ []) → (epoch x : ℕ) (l : Leader) → LeaderAgrees c h epoch x l → LeaderAgrees c (e ∷ h) epoch x l
+leader-unwritten c h t e q n epoch x l a =
+    record { words = a .words ∙ sym (words-same x e h (n x)); rows = rows-unwritten c h t x (l .partition) (a .rows) e q; coordinator = a .coordinator }
 
 entries-after : (a : Action) (s : Coordinator) (h : History) → entriesOf (historyAfter a s h) ≡ entriesOf h
 entries-after keep s h = refl
 entries-after (advance clock) s h = refl
-entries-after (append place row) s h = before-quiet producedIn (recordAppended (recordOf row) (logEnd s + length (rowFrame s row))) h refl
+entries-after (append place row) s h = collect-before-same producedIn (recordAppended (recordOf row) (logEnd s + length (rowFrame s row))) h refl
 entries-after (acknowledgeAt place position) s h = refl
-entries-after (flushTo n) s h = before-quiet producedIn (logFlushed n) h refl
+entries-after (flushTo n) s h = collect-before-same producedIn (logFlushed n) h refl
 
 -- what is acknowledged is closed
-abbrev pub Noted : Catalogue → Coordinator → History → Action → Type 0
-Noted c s h keep = Unit {0}
-Noted c s h (advance clock) = Unit {0}
-Noted c s h (append place row) = Unit {0}
-Noted c s h (acknowledgeAt place position) = AcksAgree c h (acknowledged s place position)
-Noted c s h (flushTo n) = Unit {0}
+abbrev pub AcknowledgesClosed : Catalogue → Coordinator → History → Action → Type 0
+AcknowledgesClosed c s h keep = Unit {0}
+AcknowledgesClosed c s h (advance clock) = Unit {0}
+AcknowledgesClosed c s h (append place row) = Unit {0}
+AcknowledgesClosed c s h (acknowledgeAt place position) = AcksAgree c h (acknowledged s place position)
+AcknowledgesClosed c s h (flushTo n) = Unit {0}
 
 module _ (w : World) (i : Invariant w) where
   abbrev c : Catalogue
@@ -89,18 +89,18 @@ module _ (w : World) (i : Invariant w) where
   abbrev h : History
   h = w .history
 
-  pub same : Good w w
-  same = record { same-text = refl; grown = still; holds = λ o. i }
+  pub same : Preserves w w
+  same = record { same-text = refl; extends = still; holds = λ o. i }
 
   -- nothing is carried any more
-  pub idles : Good w (withCarrying w nothing)
+  pub idles : Preserves w (withCarrying w nothing)
   idles =
       record {
         same-text = refl;
-        grown = still;
+        extends = still;
         holds = λ o. record {
           parsed = i .parsed;
-          told = i .told;
+          of-history = i .of-history;
           offsets = i .offsets;
           log-side = i .log-side;
           acks = i .acks;
@@ -121,49 +121,49 @@ module _ (w : World) (i : Invariant w) where
     pub leaders-of : (x : ℕ) → LeaderAgrees c h (s .epoch) x (leaderAt w x)
     leaders-of x = subst (λ (p : Phase). LeaderAgrees c h (epochOf p) x (leaderAt w x)) u (i .leaders x)
 
-    leaders-after : (a : Action) → Lawful s a → AppendsWell s h a → (x : ℕ) → LeaderAgrees c (historyAfter a s h) (s .epoch) x (leaderAt w x)
+    leaders-after : (a : Action) → Lawful s a → MayAppend s h a → (x : ℕ) → LeaderAgrees c (historyAfter a s h) (s .epoch) x (leaderAt w x)
     leaders-after keep l k x = leaders-of x
     leaders-after (advance clock) l k x = leaders-of x
     leaders-after (append place row) l (f, p) x =
         let end = logEnd s + length (rowFrame s row) in
         let a = leaders-of x in
         record {
-          words = a .words ∙ sym (words-quiet x (recordAppended (recordOf row) end) h refl);
-          rows = rows-append c h (i .told) x (leaderAt w x .partition) (a .rows) (recordOf row) end (append-may c (w .log) s h log-of (i .told) place row l f p);
+          words = a .words ∙ sym (words-same x (recordAppended (recordOf row) end) h refl);
+          rows = rows-append c h (i .of-history) x (leaderAt w x .partition) (a .rows) (recordOf row) end (append-may c (w .log) s h log-of (i .of-history) place row l f p);
           coordinator = a .coordinator;
         }
     leaders-after (acknowledgeAt place position) l k x = leaders-of x
     leaders-after (flushTo n) (rises, within) k x =
-        leader-quiet c h (i .told) (logFlushed n) (flush-quiet h n (subst (λ (m : ℕ). m ≤ n) (log-of .flushed) rises)) (λ y. refl) (s .epoch) x (leaderAt w x) (leaders-of x)
+        leader-unwritten c h (i .of-history) (logFlushed n) (flush-writes-nothing h n (subst (λ (m : ℕ). m ≤ n) (log-of .flushed) rises)) (λ y. refl) (s .epoch) x (leaderAt w x) (leaders-of x)
 
-    acks-after : (a : Action) → Lawful s a → AppendsWell s h a → Noted c s h a → AcksAgree c (historyAfter a s h) (after a s)
+    acks-after : (a : Action) → Lawful s a → MayAppend s h a → AcknowledgesClosed c s h a → AcksAgree c (historyAfter a s h) (after a s)
     acks-after keep l k n = acks-of
     acks-after (advance clock) l k n = acks-rows c h s (after (advance clock) s) (λ j. refl) acks-of
     acks-after (append place row) l (f, p) n =
-        acks-appended c h (i .told) s acks-of place row inside (l .none-acknowledged) (subst (λ (y : Catalogue). wellFormed y (recordOf row) ≡ true) (log-of .written .catalogue-is) (l .formed)) (append-may c (w .log) s h log-of (i .told) place row l f p)
+        acks-appended c h (i .of-history) s acks-of place row inside (l .none-acknowledged) (subst (λ (y : Catalogue). wellFormed y (recordOf row) ≡ true) (log-of .written .catalogue-is) (l .formed)) (append-may c (w .log) s h log-of (i .of-history) place row l f p)
       where
         inside : place < length (s .table .rows)
         inside =
             let at : placeFor (unacknowledged (s .table)) (row .name) ≡ place = plain-place-for (s .table) (row .name) ∙ l .place-is in
-            omega (arith, come-place (unacknowledged (s .table)) (recordOf row) (l .comes), proper s (live-ready c (w .log) s h log-of (i .told)) .all)
+            omega (arith, come-place (unacknowledged (s .table)) (recordOf row) (l .comes), proper s (live-ready c (w .log) s h log-of (i .of-history)) .all)
     acks-after (acknowledgeAt place position) l k n = n
     acks-after (flushTo n) l k m =
         acks-rows c (logFlushed n ∷ h) s (after (flushTo n) s) (λ j. refl)
-        (acks-kept c h s (logFlushed n) (λ x k b o. none-quiet c h (logFlushed n) refl (λ position pid. refl) (unfold recordsOf in refl) x k o) acks-of)
+        (acks-kept c h s (logFlushed n) (λ x k b o. none-open-kept c h (logFlushed n) refl (λ position pid. refl) (unfold recordsOf in refl) x k o) acks-of)
 
     -- an action, lent the log buffer
-    pub did : (a : Action) → Decided s (length (w .log)) a → AppendsWell s h a → Noted c s h a → Good w (coordinatorDoes a s w)
+    pub did : (a : Action) → Decided s (length (w .log)) a → MayAppend s h a → AcknowledgesClosed c s h a → Preserves w (coordinatorDoes a s w)
     did a d k n =
-        let l = decided-lawful s (live-ready c (w .log) s h log-of (i .told)) (length (w .log)) a d in
-        let g = up-grown-by c (w .log) s h log-of (i .told) a l k in
+        let l = decided-lawful s (live-ready c (w .log) s h log-of (i .of-history)) (length (w .log)) a d in
+        let g = up-extends c (w .log) s h log-of (i .of-history) a l k in
         record {
           same-text = refl;
-          grown = g;
+          extends = g;
           holds = λ o. record {
             parsed = i .parsed;
-            told = told-grown c h (i .told) g;
+            of-history = extends-keeps c h (i .of-history) g;
             offsets = rw (entries-after a s h) (i .offsets);
-            log-side = up-acts c (w .log) s h log-of (i .told) a d;
+            log-side = up-acts c (w .log) s h log-of (i .of-history) a d;
             acks = acks-after a l k n;
             own = o;
             count = i .count;
@@ -173,21 +173,21 @@ module _ (w : World) (i : Invariant w) where
         }
 
     -- every call but Ack
-    settled-well : (a : Action) → Settled s a → AppendsWell s h a
-    settled-well keep k = tt
-    settled-well (advance clock) k = tt
-    settled-well (append place row) k = (k .flushed, λ p. not-both (k .unprepared) p)
-    settled-well (acknowledgeAt place position) k = tt
-    settled-well (flushTo n) k = tt
+    flushed-first-may-append : (a : Action) → FlushedFirst s a → MayAppend s h a
+    flushed-first-may-append keep k = tt
+    flushed-first-may-append (advance clock) k = tt
+    flushed-first-may-append (append place row) k = (k .flushed, λ p. not-both (k .unprepared) p)
+    flushed-first-may-append (acknowledgeAt place position) k = tt
+    flushed-first-may-append (flushTo n) k = tt
 
-    settled-noted : (a : Action) → Settled s a → Noted c s h a
-    settled-noted keep k = tt
-    settled-noted (advance clock) k = tt
-    settled-noted (append place row) k = tt
-    settled-noted (acknowledgeAt place position) k = absurd k
-    settled-noted (flushTo n) k = tt
+    flushed-first-acknowledges : (a : Action) → FlushedFirst s a → AcknowledgesClosed c s h a
+    flushed-first-acknowledges keep k = tt
+    flushed-first-acknowledges (advance clock) k = tt
+    flushed-first-acknowledges (append place row) k = tt
+    flushed-first-acknowledges (acknowledgeAt place position) k = absurd k
+    flushed-first-acknowledges (flushTo n) k = tt
 
-    pub calls : (call : CoordinatorCall) → callTyped call ≡ true → isAck call ≡ false → Good w (coordinatorDoes (actionOf call s (length (w .log))) s w)
+    pub calls : (call : CoordinatorCall) → callTyped call ≡ true → isAck call ≡ false → Preserves w (coordinatorDoes (actionOf call s (length (w .log))) s w)
     calls call t b =
-        let k = call-settled s (live-ready c (w .log) s h log-of (i .told)) (length (w .log)) call b in
-        did (actionOf call s (length (w .log))) (byCall call t refl) (settled-well (actionOf call s (length (w .log))) k) (settled-noted (actionOf call s (length (w .log))) k)
+        let k = call-flushed-first s (live-ready c (w .log) s h log-of (i .of-history)) (length (w .log)) call b in
+        did (actionOf call s (length (w .log))) (byCall call t refl) (flushed-first-may-append (actionOf call s (length (w .log))) k) (flushed-first-acknowledges (actionOf call s (length (w .log))) k)

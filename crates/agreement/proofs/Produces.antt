@@ -54,14 +54,14 @@ use Rattle.protocol.specs.NextEvent.{MayBeNext}
 use Rattle.protocol.proofs.Lists.{found-is, find-in}
 use Rattle.protocol.proofs.Records.{come-record}
 use Rattle.protocol.proofs.NextEvent.{natural-pos}
-use Rattle.protocol.proofs.Extends.{Grown, still, more, told-grown}
+use Rattle.protocol.proofs.Extends.{Extends, still, more, extends-keeps}
 use Rattle.agreement.proofs.Invariant.{LogSide, LeaderAgrees, epochOf, placeIn, NoneOpen, AcksSide, CarryingSide, Invariant}
 use Rattle.agreement.proofs.FlushedFirst.{proper}
-use Rattle.agreement.proofs.LiveTable.{live-ready, live-stands, Stands}
+use Rattle.agreement.proofs.LiveTable.{live-ready, live-record-at, RecordAt}
 use Rattle.agreement.proofs.RowsAfterProduce.{rows-entered, rows-entered-elsewhere}
-use Rattle.agreement.proofs.Acknowledgements.{none-entered, acks-kept}
-use Rattle.agreement.proofs.Words.{words-next, words-quiet}
-use Rattle.agreement.proofs.Preserves.{Good, log-same, none-carried, log-of, acks-of, idles}
+use Rattle.agreement.proofs.Acknowledgements.{none-open-entered, acks-kept}
+use Rattle.agreement.proofs.Words.{words-next, words-same}
+use Rattle.agreement.proofs.Preserves.{Preserves, log-same, none-carried, log-of, acks-of, idles}
 
 -- ---- a leader
 
@@ -77,18 +77,18 @@ words-length w i x =
     sym (length-take-le (entryWords * l .partition .end) (l .words) fits) ∙ ap length (i .leaders x .words)
 
 -- one leader changes, and the history
-pub led-good : (w : World) → Invariant w → (x : ℕ) → x < length (w .leaders) → (l : Leader) (k : Carrying) (v : History) → Grown (catalogueOf w) (w .history) v
+pub leader-preserves : (w : World) → Invariant w → (x : ℕ) → x < length (w .leaders) → (l : Leader) (k : Carrying) (v : History) → Extends (catalogueOf w) (w .history) v
     → Each (λ (p : Entry). entryWords * p .what .offset ≡ length (wordsOf (p .what .position) (p .before))) (entriesOf v)
     → LogSide (catalogueOf w) (w .log) (w .phase) v → AcksSide (catalogueOf w) (w .phase) v → LeaderAgrees (catalogueOf w) v (epochOf (w .phase)) x l
     → ((y : ℕ) → y ≢ x → LeaderAgrees (catalogueOf w) v (epochOf (w .phase)) y (leaderAt w y)) → CarryingSide (catalogueOf w) v (w .phase) k
-    → Good w (withLeader w x l k v)
-led-good w i x b l k v g offsets log-side acks here others carried =
+    → Preserves w (withLeader w x l k v)
+leader-preserves w i x b l k v g offsets log-side acks here others carried =
     record {
       same-text = refl;
-      grown = g;
+      extends = g;
       holds = λ o. record {
         parsed = i .parsed;
-        told = told-grown (catalogueOf w) (w .history) (i .told) g;
+        of-history = extends-keeps (catalogueOf w) (w .history) (i .of-history) g;
         offsets = offsets;
         log-side = log-side;
         acks = acks;
@@ -104,9 +104,9 @@ led-good w i x b l k v g offsets log-side acks here others carried =
     go y (no n) = rw (getD-set-other (w .leaders) x y l (openLeader []) n) (others y n)
 
 -- a leader that does nothing
-pub keeps-leader : (w : World) → Invariant w → (x : ℕ) → Good w (withLeader w x (leaderAt w x) nothing (w .history))
+pub keeps-leader : (w : World) → Invariant w → (x : ℕ) → Preserves w (withLeader w x (leaderAt w x) nothing (w .history))
 keeps-leader w i x =
-    subst (λ (ls : List Leader). Good w (record { text = w .text; log = w .log; phase = w .phase; leaders = ls; carrying = nothing; history = w .history })) (sym (set-getD (w .leaders) x (openLeader []))) (idles w i)
+    subst (λ (ls : List Leader). Preserves w (record { text = w .text; log = w .log; phase = w .phase; leaders = ls; carrying = nothing; history = w .history })) (sym (set-getD (w .leaders) x (openLeader []))) (idles w i)
 
 -- a position of the catalogue has a leader
 pub position-below : (w : World) → Invariant w → (position : ℕ) → member (catalogueOf w .all) position ≡ true → position < length (w .leaders)
@@ -143,10 +143,10 @@ module _ (w : World) (i : Invariant w) (s : Coordinator) (u : w .phase ≡ up s)
     q = producerThen p k0 row sequence
 
     all : length (s .table .rows) ≡ places
-    all = proper s (live-ready c (w .log) s h (log-of w i s u) (i .told)) .all
+    all = proper s (live-ready c (w .log) s h (log-of w i s u) (i .of-history)) .all
 
-    st : Stands c (w .log) s h (log-of w i s u) (i .told) k0
-    st = live-stands c (w .log) s h (log-of w i s u) (i .told) k0 (held-row s all name (t .named) (t .held))
+    st : RecordAt c (w .log) s h (log-of w i s u) (i .of-history) k0
+    st = live-record-at c (w .log) s h (log-of w i s u) (i .of-history) k0 (held-row s all name (t .named) (t .held))
 
     abbrev l : Logged
     l = st .latest
@@ -159,7 +159,7 @@ module _ (w : World) (i : Invariant w) (s : Coordinator) (u : w .phase ≡ up s)
 
     entitled : Entitled e h l
     entitled =
-        let (formed, natural) = come-record c (recordsOf h) (i .told .come) l (find-in (isOf (padded nameMax name)) (recordsOf h) l is) in
+        let (formed, natural) = come-record c (recordsOf h) (i .of-history .come) l (find-in (isOf (padded nameMax name)) (recordsOf h) l is) in
         let (n, n-is) = well-formed-parts c (l .content) formed .pid-natural in
         let (m, m-is, _) = at-least 0 (l .content .epoch) (natural .epoch-natural) in
         record {
@@ -215,21 +215,21 @@ module _ (w : World) (i : Invariant w) (s : Coordinator) (u : w .phase ≡ up s)
     unfolding produced
     first-kept o = rw o
 
-    writes : Good w (leaderDoes x (dataEntry p k0 q payload) (entryWritten e) nothing w)
+    writes : Preserves w (leaderDoes x (dataEntry p k0 q payload) (entryWritten e) nothing w)
     unfolding produced
     writes =
-        led-good w i x below (record { partition = p′; words = laid words (entryWords * p .end) four }) nothing (entryWritten e ∷ h) (more still may)
+        leader-preserves w i x below (record { partition = p′; words = laid words (entryWords * p .end) four }) nothing (entryWritten e ∷ h) (more still may)
         (rw more-entries (words-length w i x, i .offsets))
         (log-same c (w .log) (w .phase) h (entryWritten e ∷ h) records flushed (i .log-side))
         (subst (λ (y : Phase). AcksSide c y (entryWritten e ∷ h)) (sym u) (acks-kept c h s (entryWritten e) kept (acks-of w i s u)))
         (record {
           words = new-words;
-          rows = rows-entered c h (i .told) x p (i .leaders x .rows) p′ k0 q rows-here rows-there e l is entitled at refl (sym (ap toNat (t .same-pid))) (sym (ap toNat (t .same-epoch))) first-is first-kept (let b = first-is in omega arith) (omega arith) refl;
+          rows = rows-entered c h (i .of-history) x p (i .leaders x .rows) p′ k0 q rows-here rows-there e l is entitled at refl (sym (ap toNat (t .same-pid))) (sym (ap toNat (t .same-epoch))) first-is first-kept (let b = first-is in omega arith) (omega arith) refl;
           coordinator = i .leaders x .coordinator;
         })
         (λ y n. record {
-          words = i .leaders y .words ∙ sym (words-quiet y (entryWritten e) h (rw (ne-eqb x y (λ z. n (sym z))) refl));
-          rows = rows-entered-elsewhere c h (i .told) y (leaderAt w y .partition) (i .leaders y .rows) e (λ z. n (sym z));
+          words = i .leaders y .words ∙ sym (words-same y (entryWritten e) h (rw (ne-eqb x y (λ z. n (sym z))) refl));
+          rows = rows-entered-elsewhere c h (i .of-history) y (leaderAt w y .partition) (i .leaders y .rows) e (λ z. n (sym z));
           coordinator = i .leaders y .coordinator;
         })
         (none-carried c (entryWritten e ∷ h) (w .phase))
@@ -244,10 +244,10 @@ module _ (w : World) (i : Invariant w) (s : Coordinator) (u : w .phase ≡ up s)
         more-entries = unfold collectWithBefore in refl
 
         kept : (y k : ℕ) → member (rowAt (s .table) k .acknowledged) y ≡ true → NoneOpen c h (recordsOf h) y k → NoneOpen c (entryWritten e ∷ h) (recordsOf (entryWritten e ∷ h)) y k
-        kept y k m n = none-entered c h e y k (λ a b. true≢false (sym (subst (λ (j : ℕ). isPrepare (rowAt (s .table) j .status) ≡ true) (sym b ∙ at) (acks-of w i s u .closed k y m .0)) ∙ ap isPrepare (is-begin (row .status) (t .begins)))) n
+        kept y k m n = none-open-entered c h e y k (λ a b. true≢false (sym (subst (λ (j : ℕ). isPrepare (rowAt (s .table) j .status) ≡ true) (sym b ∙ at) (acks-of w i s u .closed k y m .0)) ∙ ap isPrepare (is-begin (row .status) (t .begins)))) n
 
-  pub produces-own : Good w (leaderDoes x (produce s p (length words) name pid epoch x sequence payload .action) (entryWritten e) nothing w)
+  pub produces-own : Preserves w (leaderDoes x (produce s p (length words) name pid epoch x sequence payload .action) (entryWritten e) nothing w)
   unfolding produce
   produces-own =
       unless-does (firstRefusal (produceTests s p (length words) name pid epoch x sequence)) Refused keepPartition _
-      (λ (a : PartitionAction). Good w (leaderDoes x a (entryWritten e) nothing w)) (keeps-leader w i x) (λ z. writes (produce-passed s p (length words) name pid epoch x sequence payload z))
+      (λ (a : PartitionAction). Preserves w (leaderDoes x a (entryWritten e) nothing w)) (keeps-leader w i x) (λ z. writes (produce-passed s p (length words) name pid epoch x sequence payload z))

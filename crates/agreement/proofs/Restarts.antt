@@ -56,37 +56,37 @@ use Rattle.runs.specs.History.{Order, logCut, logOpened, History, producedIn, r
 use Rattle.runs.specs.World.{Phase, up, down, nothing, World, catalogueOf, leaderAt, coordinatorElsewhere, withPhase, withPartition, onceDone}
 use Rattle.runs.proofs.Leaves.{flush-elsewhere}
 use Rattle.protocol.proofs.Lists.{either}
-use Rattle.protocol.proofs.Entries.{before-quiet}
-use Rattle.protocol.proofs.NextEvent.{cut-quiet, opened-quiet, prepare-idle}
-use Rattle.protocol.proofs.Extends.{still, more, told-grown}
+use Rattle.protocol.proofs.Entries.{collect-before-same}
+use Rattle.protocol.proofs.NextEvent.{cut-writes-nothing, opened-writes-nothing, prepare-idle}
+use Rattle.protocol.proofs.Extends.{still, more, extends-keeps}
 use Rattle.agreement.proofs.Invariant.{DownLog, LogSide, LeaderAgrees, epochOf, AcksAgree, Invariant}
 use Rattle.agreement.proofs.LogSteps.{cut-may, cut-down, opened-may, opened-up}
 use Rattle.agreement.proofs.Acknowledgements.{member-nothing, fresh-waits}
-use Rattle.agreement.proofs.Preserves.{Good, leader-quiet, log-of, leaders-of, idles, calls}
+use Rattle.agreement.proofs.Preserves.{Preserves, leader-unwritten, log-of, leaders-of, idles, calls}
 use Rattle.agreement.proofs.Produces.{own-at, keeps-leader}
 
 -- ---- a cut
 
-pub cuts : (w : World) (i : Invariant w) (s : Coordinator) (u : w .phase ≡ up s) (n : ℕ) → (leb (s .flushed) n && leb n (logEnd s)) ≡ true → Good w (withPhase w (down n (s .epoch)) (logCut n))
+pub cuts : (w : World) (i : Invariant w) (s : Coordinator) (u : w .phase ≡ up s) (n : ℕ) → (leb (s .flushed) n && leb n (logEnd s)) ≡ true → Preserves w (withPhase w (down n (s .epoch)) (logCut n))
 cuts w i s u n e =
     let c = catalogueOf w in
     let h = w .history in
     let low = leb-true (s .flushed) n (and-left (leb (s .flushed) n) (leb n (logEnd s)) e) in
     let high = leb-true n (logEnd s) (and-right (leb (s .flushed) n) (leb n (logEnd s)) e) in
     let l = log-of w i s u in
-    let may = cut-may c (w .log) s h l (i .told) n low in
+    let may = cut-may c (w .log) s h l (i .of-history) n low in
     record {
       same-text = refl;
-      grown = more still may;
+      extends = more still may;
       holds = λ o. record {
         parsed = i .parsed;
-        told = told-grown c h (i .told) (more still may);
-        offsets = rw (before-quiet producedIn (logCut n) h refl) (i .offsets);
-        log-side = cut-down c (w .log) s h l (i .told) n low high;
+        of-history = extends-keeps c h (i .of-history) (more still may);
+        offsets = rw (collect-before-same producedIn (logCut n) h refl) (i .offsets);
+        log-side = cut-down c (w .log) s h l (i .of-history) n low high;
         acks = tt;
         own = o;
         count = i .count;
-        leaders = λ x. leader-quiet c h (i .told) (logCut n) (cut-quiet h n may) (λ y. refl) (s .epoch) x (leaderAt w x) (leaders-of w i s u x);
+        leaders = λ x. leader-unwritten c h (i .of-history) (logCut n) (cut-writes-nothing h n may) (λ y. refl) (s .epoch) x (leaderAt w x) (leaders-of w i s u x);
         carried = tt;
       };
     }
@@ -115,30 +115,30 @@ opening-valid text log n epoch first last a =
 
 pub reopens : (w : World) (i : Invariant w) (n before : ℕ) (u : w .phase ≡ down n before) (epoch first last : ℤ) → openingTyped epoch first last ≡ true
     → (eqb (openReply (opening (w .text) (w .log) n epoch first last .answer) .number) 0 && leZ (pos before) epoch) ≡ true
-    → Good w (withPhase w (up (opening (w .text) (w .log) n epoch first last .state)) (logOpened epoch))
+    → Preserves w (withPhase w (up (opening (w .text) (w .log) n epoch first last .state)) (logOpened epoch))
 reopens w i n before u epoch first last typed e =
     let c = catalogueOf w in
     let h = w .history in
     let accepted : openReply (opening (w .text) (w .log) n epoch first last .answer) .number ≡ 0 = eqb-true _ 0 (and-left (eqb (openReply (opening (w .text) (w .log) n epoch first last .answer) .number) 0) (leZ (pos before) epoch) e) in
     let (m, m-is, low) = at-least before epoch (and-right (eqb (openReply (opening (w .text) (w .log) n epoch first last .answer) .number) 0) (leZ (pos before) epoch) e) in
     let d : DownLog c (w .log) n h = subst (λ (p : Phase). LogSide c (w .log) p h) u (i .log-side) in
-    let may = opened-may (w .text) (w .log) (i .parsed) n h d (i .told) epoch in
+    let may = opened-may (w .text) (w .log) (i .parsed) n h d (i .of-history) epoch in
     let (valid, epoch-is) = opening-valid (w .text) (w .log) n epoch first last accepted in
     let rises : before ≤ opening (w .text) (w .log) n epoch first last .state .epoch = omega (arith, epoch-is, ap toNat m-is) in
     record {
       same-text = refl;
-      grown = more still may;
+      extends = more still may;
       holds = λ o. record {
         parsed = i .parsed;
-        told = told-grown c h (i .told) (more still may);
-        offsets = rw (before-quiet producedIn (logOpened epoch) h refl) (i .offsets);
-        log-side = opened-up (w .text) (w .log) (i .parsed) n h d (i .told) epoch first last typed accepted;
+        of-history = extends-keeps c h (i .of-history) (more still may);
+        offsets = rw (collect-before-same producedIn (logOpened epoch) h refl) (i .offsets);
+        log-side = opened-up (w .text) (w .log) (i .parsed) n h d (i .of-history) epoch first last typed accepted;
         acks = fresh-acks c (logOpened epoch ∷ h) (opening (w .text) (w .log) n epoch first last .state) valid;
         own = o;
         count = i .count;
         leaders = λ x.
             let a : LeaderAgrees c h before x (leaderAt w x) = subst (λ (p : Phase). LeaderAgrees c h (epochOf p) x (leaderAt w x)) u (i .leaders x) in
-            let b = leader-quiet c h (i .told) (logOpened epoch) (opened-quiet h epoch may) (λ y. refl) before x (leaderAt w x) a in
+            let b = leader-unwritten c h (i .of-history) (logOpened epoch) (opened-writes-nothing h epoch may) (λ y. refl) before x (leaderAt w x) a in
             record { words = b .words; rows = b .rows; coordinator = omega (arith, b .coordinator) };
         carried = tt;
       };
@@ -169,18 +169,18 @@ module _ (w : World) (i : Invariant w) (s : Coordinator) (u : w .phase ≡ up s)
   pub not-admitted : admits s n ≡ false
   not-admitted = written-admits (catalogueOf w) (w .log) s (contents (recordsOf (w .history))) (log-of w i s u .written) n ∙ ne-eqb n (length (w .log)) d
 
-  same-state : Good w (coordinatorElsewhere keep s w)
-  same-state = subst (λ (p : Phase). Good w (record { text = w .text; log = w .log; phase = p; leaders = w .leaders; carrying = nothing; history = w .history })) u (idles w i)
+  same-state : Preserves w (coordinatorElsewhere keep s w)
+  same-state = subst (λ (p : Phase). Preserves w (record { text = w .text; log = w .log; phase = p; leaders = w .leaders; carrying = nothing; history = w .history })) u (idles w i)
 
-  refused-elsewhere : (c : CoordinatorCall) → takesLog c ≡ true → Good w (coordinatorElsewhere (actionOf c s n) s w)
+  refused-elsewhere : (c : CoordinatorCall) → takesLog c ≡ true → Preserves w (coordinatorElsewhere (actionOf c s n) s w)
   refused-elsewhere c b = rw (call-refused s n not-admitted c b) same-state
 
-  pub calls-elsewhere : (c : CoordinatorCall) → Good w (coordinatorElsewhere (actionOf c s n) s w)
+  pub calls-elsewhere : (c : CoordinatorCall) → Preserves w (coordinatorElsewhere (actionOf c s n) s w)
   calls-elsewhere (initCall name timeout time) = refused-elsewhere (initCall name timeout time) refl
   calls-elsewhere (addCall name pid epoch set time) = refused-elsewhere (addCall name pid epoch set time) refl
   calls-elsewhere (endCall name pid epoch verdict time) = refused-elsewhere (endCall name pid epoch verdict time) refl
   calls-elsewhere (tickCall time) = refused-elsewhere (tickCall time) refl
-  calls-elsewhere (flushCall m) = subst (Good w) (sym (flush-elsewhere m s w)) (calls w i s u (flushCall m) refl refl)
+  calls-elsewhere (flushCall m) = subst (Preserves w) (sym (flush-elsewhere m s w)) (calls w i s u (flushCall m) refl refl)
   calls-elsewhere (ackCall place pid epoch position) = refused-elsewhere (ackCall place pid epoch position) refl
 
 module _ (w : World) (i : Invariant w) (x n : ℕ) (d : n ≡ length (leaderAt w x .words) → ⊥) where
@@ -189,19 +189,19 @@ module _ (w : World) (i : Invariant w) (x n : ℕ) (d : n ≡ length (leaderAt w
       let o = own-at w (i .own) x in
       admits-length (leaderAt w x .partition) (o .reserved) n ∙ ne-eqb n (leaderAt w x .partition .room) (λ z. d (z ∙ sym (o .room)))
 
-  same-partition : Good w (withPartition w x (leaderAt w x .partition) nothing)
+  same-partition : Preserves w (withPartition w x (leaderAt w x .partition) nothing)
   same-partition = keeps-leader w i x
 
   pub produces-elsewhere : (s : Coordinator) (name : List ℕ) (pid epoch : ℤ) (position : ℕ) (sequence : ℤ) (payload : ℕ)
-      → Good w (withPartition w x (partitionAfter (produce s (leaderAt w x .partition) n name pid epoch position sequence payload .action) (leaderAt w x .partition)) nothing)
+      → Preserves w (withPartition w x (partitionAfter (produce s (leaderAt w x .partition) n name pid epoch position sequence payload .action) (leaderAt w x .partition)) nothing)
   unfolding produce
   produces-elsewhere s name pid epoch position sequence payload =
       unless-does (firstRefusal (produceTests s (leaderAt w x .partition) n name pid epoch position sequence)) ProduceRefused keepPartition _
-      (λ (a : PartitionAction). Good w (withPartition w x (partitionAfter a (leaderAt w x .partition)) nothing)) same-partition
+      (λ (a : PartitionAction). Preserves w (withPartition w x (partitionAfter a (leaderAt w x .partition)) nothing)) same-partition
       (λ z. not-both words-not-admitted (produce-passed s (leaderAt w x .partition) n name pid epoch position sequence payload z .admitted))
 
   pub delivers-elsewhere : (place : ℕ) (pid epoch : ℤ) (verdict : ℕ) (coordinator : ℤ) (k : ℕ) (o : Order)
-      → Good w (withPartition w x (partitionAfter (marker (leaderAt w x .partition) n place pid epoch verdict coordinator .action) (leaderAt w x .partition)) (onceDone (reply (marker (leaderAt w x .partition) n place pid epoch verdict coordinator .answer)) k o))
+      → Preserves w (withPartition w x (partitionAfter (marker (leaderAt w x .partition) n place pid epoch verdict coordinator .action) (leaderAt w x .partition)) (onceDone (reply (marker (leaderAt w x .partition) n place pid epoch verdict coordinator .answer)) k o))
   delivers-elsewhere place pid epoch verdict coordinator k o =
       let refused : firstRefusal (markerTests (leaderAt w x .partition) n place pid epoch verdict coordinator) ≡ 0 → ⊥ =
       λ z. not-both words-not-admitted (marker-passed (leaderAt w x .partition) n place pid epoch verdict coordinator z .admitted) in

@@ -28,13 +28,13 @@ use Rattle.runs.specs.History.{Event, recordAppended, History, producedIn, Logg
 use Rattle.runs.specs.Demand3.{Ends}
 use Rattle.protocol.specs.RecordsOfName.{latestIn, nthPrepare}
 use Rattle.protocol.specs.Entries.{Entry, entriesOf, ordinalOf, kindIn, underOf}
-use Rattle.protocol.specs.HistoryInvariant.{Busy, Closes, Standing, stillOpen, closed, Told}
+use Rattle.protocol.specs.HistoryInvariant.{OpenTransaction, Closes, Standing, stillOpen, closed, HistoryInvariant}
 use Rattle.protocol.specs.NextEvent.{Appendable}
 use Rattle.protocol.proofs.Lists.{found-with, find-in, In, each-in, in-each, either}
 use Rattle.protocol.proofs.Records.{ending-stays, ending-drops, ending-all, ending-ends, ending-come, come-record, table-latest}
 use Rattle.protocol.proofs.ProducerIds.{PidFrom, fresh, kept, pid-from}
-use Rattle.protocol.proofs.Entries.{before-quiet, entry-before, under-quiet, nth-is}
-use Rattle.protocol.proofs.NextEvent.{under-each, Quiet, prepare-code}
+use Rattle.protocol.proofs.Entries.{collect-before-same, entry-before, under-same, nth-is}
+use Rattle.protocol.proofs.NextEvent.{under-each, WritesNothing, prepare-code}
 use Rattle.agreement.proofs.Invariant.{NotAhead, placeIn, Owns, NoneOpen, RowsAgree}
 use Rattle.agreement.proofs.Tables.{latest-starts, place-kept, row-new, row-other, next-rises}
 
@@ -44,7 +44,7 @@ pub under-back : (h : History) (e : Event) → ((p : Entry) → In p (entriesOf 
     → Each (λ (p : Entry). P (underOf h p) p) (entriesOf h)
 under-back h e q P i =
     in-each (λ (p : Entry). P (underOf h p) p) (entriesOf h)
-    (λ p j. subst (λ (n : ℕ). P n p) (under-quiet e h p (entry-before h p j) (q p j)) (each-in (λ (p : Entry). P (underOf (e ∷ h) p) p) (entriesOf h) p i j))
+    (λ p j. subst (λ (n : ℕ). P n p) (under-same e h p (entry-before h p j) (q p j)) (each-in (λ (p : Entry). P (underOf (e ∷ h) p) p) (entriesOf h) p i j))
 
 -- a record that is held is not a free row
 pub held-busy : (c : Catalogue) (l : List Logged) → allCome c emptyTable (contents l) ≡ true → (r : Logged) → In r l → free (held (r .content) (r .end)) ≡ false
@@ -52,7 +52,7 @@ held-busy c l e r i = ne-eqb (getD (r .content .name) 0 0) 0 (formed-starts c (r
 
 -- ---- an open entry at a cut
 
-module _ (c : Catalogue) (h : History) (t : Told c h) where
+module _ (c : Catalogue) (h : History) (t : HistoryInvariant c h) where
   pub view-come : (k : ℕ) → allCome c emptyTable (contents (endingBy k (recordsOf h))) ≡ true
   view-come k = ending-come k c (recordsOf h) (t .come)
 
@@ -60,11 +60,11 @@ module _ (c : Catalogue) (h : History) (t : Told c h) where
   view-ends k = ending-ends k c (recordsOf h) (t .ends)
 
   pub open-at : {X : Type 0} (k : ℕ) → flushedOf h ≤ k → (p : Entry) → In p (entriesOf h) → underOf h p ≡ 0
-      → ((l : Logged) → latestIn (p .what .name) (endingBy k (recordsOf h)) ≡ some l → Busy p (endingBy k (recordsOf h)) l → X) → X
+      → ((l : Logged) → latestIn (p .what .name) (endingBy k (recordsOf h)) ≡ some l → OpenTransaction p (endingBy k (recordsOf h)) l → X) → X
   open-at {X} k f p j z g = go (each-in (λ (p : Entry). Standing (underOf h p) (endingBy k (recordsOf h)) p) (entriesOf h) p (t .standing k f) j)
     where
       go : Standing (underOf h p) (endingBy k (recordsOf h)) p → X
-      go (stillOpen y b) = found-with (Busy p (endingBy k (recordsOf h))) (latestIn (p .what .name) (endingBy k (recordsOf h))) b g
+      go (stillOpen y b) = found-with (OpenTransaction p (endingBy k (recordsOf h))) (latestIn (p .what .name) (endingBy k (recordsOf h))) b g
       go (closed b) =
           found-with (Closes (underOf h p) p) (nthPrepare (p .what .name) (ordinalOf p) (endingBy k (recordsOf h))) b
           (λ l e d. absurd (let s = prepare-code (l .content .status) (and-right (isOf (p .what .name) l) (isPrepare (l .content .status)) (nth-is (p .what .name) (endingBy k (recordsOf h)) (ordinalOf p) l e .0)) in omega (arith, d .verdict)))
@@ -72,8 +72,8 @@ module _ (c : Catalogue) (h : History) (t : Told c h) where
   module _ (x : ℕ) (p : Partition) (a : RowsAgree c h x p) where
     -- ---- Flush, a cut, an opening, an Order
 
-    pub rows-quiet : (e : Event) → Quiet h e → RowsAgree c (e ∷ h) x p
-    rows-quiet e q =
+    pub rows-unwritten : (e : Event) → WritesNothing h e → RowsAgree c (e ∷ h) x p
+    rows-unwritten e q =
         record {
           entry-row = λ k b. let (m, f, v) = q .views k b in
               rw (v, same-entries) (under-each h e (q .no-kind) (λ (n : ℕ) (d : Entry). d .what .position ≡ x → n ≡ 0 → Owns (producerAt p (placeIn c (endingBy m (recordsOf h)) (d .what .name))) d) (a .entry-row m f));
@@ -85,7 +85,7 @@ module _ (c : Catalogue) (h : History) (t : Told c h) where
         }
       where
         same-entries : entriesOf (e ∷ h) ≡ entriesOf h
-        same-entries = before-quiet producedIn e h (q .no-entry)
+        same-entries = collect-before-same producedIn e h (q .no-entry)
 
     -- ---- a record
 
@@ -159,7 +159,7 @@ module _ (c : Catalogue) (h : History) (t : Told c h) where
           }
         where
           same-entries : entriesOf (recordAppended r end ∷ h) ≡ entriesOf h
-          same-entries = before-quiet producedIn (recordAppended r end) h refl
+          same-entries = collect-before-same producedIn (recordAppended r end) h refl
 
           records : recordsOf (recordAppended r end ∷ h) ≡ new ∷ recordsOf h
           records = unfold recordsOf in refl

@@ -27,25 +27,25 @@ use Rattle.runs.specs.History.{Order, markerWritten, History, producedIn, Logge
 use Rattle.runs.specs.Demand3.{Completes, IsFor}
 use Rattle.protocol.specs.RecordsOfName.{latestIn}
 use Rattle.protocol.specs.Entries.{Entry, entriesOf, underOf}
-use Rattle.protocol.specs.HistoryInvariant.{Told}
+use Rattle.protocol.specs.HistoryInvariant.{HistoryInvariant}
 use Rattle.protocol.proofs.Lists.{none-some, some-same, found-with, In, each-in, in-each, find-in, either}
 use Rattle.protocol.proofs.Records.{ending-all, ending-in, latest-name, latest-settled, come-record, After, latest, completed, after-prepare}
 use Rattle.protocol.proofs.ProducerIds.{pid-owner}
-use Rattle.protocol.proofs.Entries.{before-quiet, entry-before, under-next, under-quiet, first-open}
+use Rattle.protocol.proofs.Entries.{collect-before-same, entry-before, under-next, under-same, first-open}
 use Rattle.agreement.proofs.Invariant.{NotAhead, placeIn, Owns, NoneOpen, RowsAgree}
 use Rattle.agreement.proofs.Tables.{place-settled, place-name, place-row}
 use Rattle.agreement.proofs.Rows.{view-come, view-ends, open-at}
 
 -- ---- the prepare of an order, at every cut
 
-pub for-latest : (c : Catalogue) (h : History) → Told c h → (o : Order) (r : Logged) → In r (recordsOf h) → IsFor o h r → latestIn (r .content .name) (recordsOf h) ≡ some r
+pub for-latest : (c : Catalogue) (h : History) → HistoryInvariant c h → (o : Order) (r : Logged) → In r (recordsOf h) → IsFor o h r → latestIn (r .content .name) (recordsOf h) ≡ some r
 for-latest c h t o r i f = go (after-prepare c (length h) (recordsOf h) (t .come) (t .ends) (t .numbered) r i (f .prepare))
   where
     go : After r (recordsOf h) → latestIn (r .content .name) (recordsOf h) ≡ some r
     go (latest n l) = l
     go (completed k) = found-with (Completes r) (nextOf r h) k (λ y e g. none-some (sym (f .latest) ∙ e))
 
-module _ (c : Catalogue) (h : History) (t : Told c h) (o : Order) (r : Logged) (i : In r (recordsOf h)) (f : IsFor o h r) (k0 : ℕ) (at : placeIn c (recordsOf h) (r .content .name) ≡ k0) where
+module _ (c : Catalogue) (h : History) (t : HistoryInvariant c h) (o : Order) (r : Logged) (i : In r (recordsOf h)) (f : IsFor o h r) (k0 : ℕ) (at : placeIn c (recordsOf h) (r .content .name) ≡ k0) where
   settled-latest : (k : ℕ) → flushedOf h ≤ k → latestIn (r .content .name) (endingBy k (recordsOf h)) ≡ some r
   settled-latest k b = latest-settled (r .content .name) (flushedOf h) k b (recordsOf h) r (for-latest c h t o r i f) (leb-true (r .end) (flushedOf h) (f .flushed)) .0
 
@@ -97,7 +97,7 @@ module _ (c : Catalogue) (h : History) (t : Told c h) (o : Order) (r : Logged) (
   other-open : (k : ℕ) → flushedOf h ≤ k → (d : Entry) → In d (entriesOf h) → underOf h d ≡ 0 → (placeIn c (endingBy k (recordsOf h)) (d .what .name) ≡ k0 → ⊥) → underOf (markerWritten o ∷ h) d ≡ 0
   other-open k b d j z n =
       either (hits d) (λ e. absurd (n (pid-place k b d j z (eqb-true (toNat (o .pid)) (toNat (d .what .pid)) (and-right (eqb (o .position) (d .what .position)) (eqb (toNat (o .pid)) (toNat (d .what .pid))) e)))))
-      (λ e. under-quiet (markerWritten o) h d (entry-before h d j) (rw e) ∙ z)
+      (λ e. under-same (markerWritten o) h d (entry-before h d j) (rw e) ∙ z)
 
   module _ (x : ℕ) (p : Partition) (a : RowsAgree c h x p) (position : o .position ≡ x) where
     -- a row that is not open has no open entry
@@ -167,7 +167,7 @@ module _ (c : Catalogue) (h : History) (t : Told c h) (o : Order) (r : Logged) (
           }
         where
           same-entries : entriesOf (markerWritten o ∷ h) ≡ entriesOf h
-          same-entries = before-quiet producedIn (markerWritten o) h refl
+          same-entries = collect-before-same producedIn (markerWritten o) h refl
 
           records : recordsOf (markerWritten o ∷ h) ≡ recordsOf h
           records = unfold recordsOf in refl

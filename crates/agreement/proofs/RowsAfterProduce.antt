@@ -23,17 +23,17 @@ use Rattle.runs.specs.History.{Order, Produced, markerWritten, entryWritten, Hi
 use Rattle.runs.specs.Demand3.{Entitled}
 use Rattle.protocol.specs.RecordsOfName.{latestIn}
 use Rattle.protocol.specs.Entries.{Entry, entriesOf, underOf}
-use Rattle.protocol.specs.HistoryInvariant.{Told}
+use Rattle.protocol.specs.HistoryInvariant.{HistoryInvariant}
 use Rattle.protocol.proofs.Lists.{some-same, In, each-in, in-each, find-in}
 use Rattle.protocol.proofs.Records.{latest-settled}
 use Rattle.protocol.proofs.ProducerIds.{pid-below}
-use Rattle.protocol.proofs.Entries.{before-quiet, entry-before, under-quiet, under-new}
+use Rattle.protocol.proofs.Entries.{collect-before-same, entry-before, under-same, under-new}
 use Rattle.protocol.proofs.NextEvent.{under-each}
 use Rattle.agreement.proofs.Invariant.{NotAhead, placeIn, Owns, RowsAgree}
 use Rattle.agreement.proofs.Tables.{place-settled, place-name, place-row}
 use Rattle.agreement.proofs.Rows.{under-back, view-come, view-ends, open-at}
 
-module _ (c : Catalogue) (h : History) (t : Told c h) (x : ℕ) (p : Partition) (a : RowsAgree c h x p) where
+module _ (c : Catalogue) (h : History) (t : HistoryInvariant c h) (x : ℕ) (p : Partition) (a : RowsAgree c h x p) where
   owns-at : (k : ℕ) → flushedOf h ≤ k → (d : Entry) → In d (entriesOf h) → d .what .position ≡ x → underOf h d ≡ 0 → Owns (producerAt p (placeIn c (endingBy k (recordsOf h)) (d .what .name))) d
   owns-at k b d j = each-in (λ (d : Entry). d .what .position ≡ x → underOf h d ≡ 0 → Owns (producerAt p (placeIn c (endingBy k (recordsOf h)) (d .what .name))) d) (entriesOf h) d (a .entry-row k b) j
 
@@ -63,7 +63,7 @@ module _ (c : Catalogue) (h : History) (t : Told c h) (x : ℕ) (p : Partition) 
       }
     where
       same-entries : entriesOf (markerWritten o ∷ h) ≡ entriesOf h
-      same-entries = before-quiet producedIn (markerWritten o) h refl
+      same-entries = collect-before-same producedIn (markerWritten o) h refl
 
       records : recordsOf (markerWritten o ∷ h) ≡ recordsOf h
       records = unfold recordsOf in refl
@@ -72,7 +72,7 @@ module _ (c : Catalogue) (h : History) (t : Told c h) (x : ℕ) (p : Partition) 
       flushed = unfold flushedOf in refl
 
       same : (d : Entry) → In d (entriesOf h) → d .what .position ≡ x → underOf (markerWritten o ∷ h) d ≡ underOf h d
-      same d j u = under-quiet (markerWritten o) h d (entry-before h d j) (rw (ne-eqb (o .position) (d .what .position) (λ z. n (z ∙ u))))
+      same d j u = under-same (markerWritten o) h d (entry-before h d j) (rw (ne-eqb (o .position) (d .what .position) (λ z. n (z ∙ u))))
 
   -- ---- an entry at another position
 

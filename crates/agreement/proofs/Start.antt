@@ -44,12 +44,12 @@ use Rattle.runs.specs.Demand3.{Ends}
 use Rattle.runs.proofs.Admitted.{start-own}
 use Rattle.protocol.specs.RecordsOfName.{NumberedBelow}
 use Rattle.protocol.specs.Entries.{entriesOf}
-use Rattle.protocol.specs.HistoryInvariant.{Told}
+use Rattle.protocol.specs.HistoryInvariant.{HistoryInvariant}
 use Rattle.protocol.proofs.Lists.{in-each}
 use Rattle.protocol.proofs.Records.{numbered-more}
-use Rattle.protocol.proofs.Entries.{before-quiet, collect-quiet}
+use Rattle.protocol.proofs.Entries.{collect-before-same, collect-same}
 use Rattle.agreement.proofs.Invariant.{UpLog, LeaderAgrees, Invariant}
-use Rattle.agreement.proofs.Words.{words-quiet}
+use Rattle.agreement.proofs.Words.{words-same}
 use Rattle.agreement.proofs.Restarts.{fresh-acks, opening-valid}
 
 -- ---- the events of records
@@ -167,27 +167,27 @@ module _ (o : FirstOpening) (a : Accepted o) where
   records = unfold recordsOf in refl
 
   no-entries : entriesOf h ≡ []
-  no-entries = before-quiet producedIn (logOpened (o .epoch)) (eventsFor c (says .records)) refl ∙ for-no-entry c (says .records)
+  no-entries = collect-before-same producedIn (logOpened (o .epoch)) (eventsFor c (says .records)) refl ∙ for-no-entry c (says .records)
 
   no-orders : collectWithBefore ordersIn h ≡ []
-  no-orders = before-quiet ordersIn (logOpened (o .epoch)) (eventsFor c (says .records)) refl ∙ for-no-order c (says .records)
+  no-orders = collect-before-same ordersIn (logOpened (o .epoch)) (eventsFor c (says .records)) refl ∙ for-no-order c (says .records)
 
   no-markers : collect markersIn h ≡ []
-  no-markers = collect-quiet markersIn (logOpened (o .epoch)) (eventsFor c (says .records)) refl ∙ for-no-marker c (says .records)
+  no-markers = collect-same markersIn (logOpened (o .epoch)) (eventsFor c (says .records)) refl ∙ for-no-marker c (says .records)
 
-  told : Told c h
-  told =
+  of-history : HistoryInvariant c h
+  of-history =
       record {
         come = rw (records, for-contents c (says .records)) (says .come);
         ends = rw records (for-ends c (says .records));
         numbered = rw records (numbered-more (length (eventsFor c (says .records))) (suc (length (eventsFor c (says .records)))) (recordsOf (eventsFor c (says .records))) (omega arith) (for-numbered c (says .records)));
         entitled = rw no-entries tt;
         standing = λ k b. rw no-entries tt;
-        apart = rw no-entries (in-each _ (recordsOf h) (λ q i p. tt));
+        by-ordinal = rw no-entries (in-each _ (recordsOf h) (λ q i p. tt));
         for-prepare = rw no-orders tt;
         marks = rw no-markers tt;
-        shut = λ k b. rw no-markers tt;
-        one = rw no-markers tt;
+        already-closed = λ k b. rw no-markers tt;
+        one-marker = rw no-markers tt;
       }
 
   log-side : UpLog c (o .log) (opening (o .text) (o .log) (o .length) (o .epoch) (o .first) (o .last) .state) h
@@ -211,7 +211,7 @@ module _ (o : FirstOpening) (a : Accepted o) where
   unfolding openPartition
   fresh-leader epoch x l =
       record {
-        words = sym (words-quiet x (logOpened (o .epoch)) (eventsFor c (says .records)) refl ∙ for-no-words c x (says .records));
+        words = sym (words-same x (logOpened (o .epoch)) (eventsFor c (says .records)) refl ∙ for-no-words c x (says .records));
         rows =
             record {
               entry-row = λ k b. rw no-entries tt;
@@ -255,7 +255,7 @@ module _ (o : FirstOpening) (a : Accepted o) where
   })) (sym e)
       (record {
         parsed = parsed;
-        told = told;
+        of-history = of-history;
         offsets = rw no-entries tt;
         log-side = log-side;
         acks = fresh-acks c h _ (opening-valid (o .text) (o .log) (o .length) (o .epoch) (o .first) (o .last) (a .0) .0);

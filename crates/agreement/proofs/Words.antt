@@ -53,8 +53,8 @@ pub words-next : (x : ℕ) (e : Event) (h : History) → wordsOf x (e ∷ h) ≡
 unfolding wordsOf
 words-next x e h = refl
 
-pub words-quiet : (x : ℕ) (e : Event) (h : History) → wordsIn x e ≡ [] → wordsOf x (e ∷ h) ≡ wordsOf x h
-words-quiet x e h q = words-next x e h ∙ ap (λ (l : List ℕ). wordsOf x h ++ l) q ∙ append-nil (wordsOf x h)
+pub words-same : (x : ℕ) (e : Event) (h : History) → wordsIn x e ≡ [] → wordsOf x (e ∷ h) ≡ wordsOf x h
+words-same x e h q = words-next x e h ∙ ap (λ (l : List ℕ). wordsOf x h ++ l) q ∙ append-nil (wordsOf x h)
 
 -- what was written before stands in front
 words-front : (x n : ℕ) (h : History) → (rest : List ℕ) × (wordsOf x h ≡ wordsOf x (eventsBefore n h) ++ rest)

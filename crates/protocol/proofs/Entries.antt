@@ -23,13 +23,13 @@ use Rattle.protocol.proofs.Records.{ending-in, numbered-below}
 -- ---- which events say what
 
 -- an event with nothing to say adds nothing
-pub collect-quiet : {A : Type 0} (f : Event → List A) (e : Event) (h : History) → f e ≡ [] → collect f (e ∷ h) ≡ collect f h
+pub collect-same : {A : Type 0} (f : Event → List A) (e : Event) (h : History) → f e ≡ [] → collect f (e ∷ h) ≡ collect f h
 unfolding collect
-collect-quiet f e h q = rw q
+collect-same f e h q = rw q
 
-pub before-quiet : {A : Type 0} (f : Event → List A) (e : Event) (h : History) → f e ≡ [] → collectWithBefore f (e ∷ h) ≡ collectWithBefore f h
+pub collect-before-same : {A : Type 0} (f : Event → List A) (e : Event) (h : History) → f e ≡ [] → collectWithBefore f (e ∷ h) ≡ collectWithBefore f h
 unfolding collectWithBefore
-before-quiet f e h q = rw q
+collect-before-same f e h q = rw q
 
 -- the events before what one says are fewer
 pub before-shorter : {A : Type 0} (f : Event → List A) (h : History) → Each (λ (p : WithBefore A). length (p .before) < length h) (collectWithBefore f h)
@@ -82,8 +82,8 @@ first-kept (suc n) k h = refl
 pub under-next : (e : Event) (h : History) (p : Entry) → length (p .before) < length h → underOf (e ∷ h) p ≡ firstOf (underOf h p) (kindIn (p .what .position) (toNat (p .what .pid)) e)
 under-next e h p b = marked-next (p .what .position) (toNat (p .what .pid)) (suc (length (p .before))) e h b
 
-pub under-quiet : (e : Event) (h : History) (p : Entry) → length (p .before) < length h → kindIn (p .what .position) (toNat (p .what .pid)) e ≡ 0 → underOf (e ∷ h) p ≡ underOf h p
-under-quiet e h p b q = under-next e h p b ∙ ap (firstOf (underOf h p)) q ∙ first-zero (underOf h p)
+pub under-same : (e : Event) (h : History) (p : Entry) → length (p .before) < length h → kindIn (p .what .position) (toNat (p .what .pid)) e ≡ 0 → underOf (e ∷ h) p ≡ underOf h p
+under-same e h p b q = under-next e h p b ∙ ap (firstOf (underOf h p)) q ∙ first-zero (underOf h p)
 
 pub under-new : (e : Event) (h : History) (p : Entry) → length h ≤ length (p .before) → underOf (e ∷ h) p ≡ 0
 under-new e h p b = marked-new (p .what .position) (toNat (p .what .pid)) (suc (length (p .before))) e h (omega arith)

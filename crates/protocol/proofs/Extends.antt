@@ -19,31 +19,31 @@ use Rattle.runs.specs.History.{Event, recordAppended, logFlushed, logCut, logOp
 use Rattle.runs.specs.Demand3.{Completes, StandsUnder}
 use Rattle.protocol.specs.RecordsOfName.{latestIn, nthPrepare}
 use Rattle.protocol.specs.Entries.{Entry, entriesOf, ordinalOf, underOf}
-use Rattle.protocol.specs.HistoryInvariant.{Stage, begun, prepared, Busy, Closes, Standing, stillOpen, closed, Within, Told}
+use Rattle.protocol.specs.HistoryInvariant.{Stage, begun, prepared, OpenTransaction, Closes, Standing, stillOpen, closed, InTransaction, HistoryInvariant}
 use Rattle.protocol.specs.NextEvent.{MayBeNext}
 use Rattle.protocol.proofs.Lists.{some-same, is-found, found-with, In, there, in-cons, each-in, in-each, each-filter}
 use Rattle.protocol.proofs.Records.{numbered-found, After, latest, completed, after-prepare, latest-last}
 use Rattle.protocol.proofs.Entries.{nth-below, nth-latest, ends-most}
-use Rattle.protocol.proofs.NextEvent.{told-next, standing-at, prepare-code}
+use Rattle.protocol.proofs.NextEvent.{next-keeps, standing-at, prepare-code}
 use Rattle.protocol.proofs.MarkerOver.{under-over, over-verdict}
 
 -- ---- histories that grow event by event
 
-pub data Grown (c : Catalogue) (h : History) : History → Type 0 where
-  still : Grown c h h
-  more : {v : History} {e : Event} → Grown c h v → MayBeNext c v e → Grown c h (e ∷ v)
+pub data Extends (c : Catalogue) (h : History) : History → Type 0 where
+  still : Extends c h h
+  more : {v : History} {e : Event} → Extends c h v → MayBeNext c v e → Extends c h (e ∷ v)
 
-pub grown-then : (c : Catalogue) (h : History) {v w : History} → Grown c h v → Grown c v w → Grown c h w
-grown-then c h g still = g
-grown-then c h g (more k a) = more (grown-then c h g k) a
+pub extends-then : (c : Catalogue) (h : History) {v w : History} → Extends c h v → Extends c v w → Extends c h w
+extends-then c h g still = g
+extends-then c h g (more k a) = more (extends-then c h g k) a
 
-pub told-grown : (c : Catalogue) (h : History) → Told c h → {v : History} → Grown c h v → Told c v
-told-grown c h t still = t
-told-grown c h t (more {v} {e} g a) = told-next c v (told-grown c h t g) e a
+pub extends-keeps : (c : Catalogue) (h : History) → HistoryInvariant c h → {v : History} → Extends c h v → HistoryInvariant c v
+extends-keeps c h t still = t
+extends-keeps c h t (more {v} {e} g a) = next-keeps c v (extends-keeps c h t g) e a
 
 -- ---- what is flushed stays
 
-pub record Firm (h : History) (r : Logged) : Type 0 where
+pub record FlushedIn (h : History) (r : Logged) : Type 0 where
   pub stands : In r (recordsOf h)
   pub flushed : r .end ≤ flushedOf h
 
@@ -54,27 +54,27 @@ ending-keeps n (x ∷ l) r i b =
     by-cases (In r) (leb (x .end) n) (λ e. i)
     (λ e. in-cons i (λ q. let z : x .end ≡ r .end = ap (λ (y : Logged). y .end) q in absurd (let k = leb-false (x .end) n e in omega arith)) (λ j. ending-keeps n l r j b))
 
-firm-next : (c : Catalogue) (h : History) → Told c h → (r : Logged) → Firm h r → (e : Event) → MayBeNext c h e → Firm (e ∷ h) r
+flushed-next : (c : Catalogue) (h : History) → HistoryInvariant c h → (r : Logged) → FlushedIn h r → (e : Event) → MayBeNext c h e → FlushedIn (e ∷ h) r
 unfolding recordsOf flushedOf
-firm-next c h t r f (recordAppended x end) a = record { stands = there (f .stands); flushed = f .flushed }
-firm-next c h t r f (logFlushed n) a = record { stands = f .stands; flushed = omega (arith, f .flushed) }
-firm-next c h t r f (logCut n) a = record { stands = ending-keeps n (recordsOf h) r (f .stands) (omega (arith, f .flushed)); flushed = omega (arith, f .flushed) }
-firm-next c h t r f (logOpened epoch) a = record { stands = f .stands; flushed = ends-most c (recordsOf h) (t .ends) r (f .stands) }
-firm-next c h t r f (orderGiven o) a = record { stands = f .stands; flushed = f .flushed }
-firm-next c h t r f (markerWritten o) a = record { stands = f .stands; flushed = f .flushed }
-firm-next c h t r f (orderCarried o) a = record { stands = f .stands; flushed = f .flushed }
-firm-next c h t r f (entryWritten e) a = record { stands = f .stands; flushed = f .flushed }
+flushed-next c h t r f (recordAppended x end) a = record { stands = there (f .stands); flushed = f .flushed }
+flushed-next c h t r f (logFlushed n) a = record { stands = f .stands; flushed = omega (arith, f .flushed) }
+flushed-next c h t r f (logCut n) a = record { stands = ending-keeps n (recordsOf h) r (f .stands) (omega (arith, f .flushed)); flushed = omega (arith, f .flushed) }
+flushed-next c h t r f (logOpened epoch) a = record { stands = f .stands; flushed = ends-most c (recordsOf h) (t .ends) r (f .stands) }
+flushed-next c h t r f (orderGiven o) a = record { stands = f .stands; flushed = f .flushed }
+flushed-next c h t r f (markerWritten o) a = record { stands = f .stands; flushed = f .flushed }
+flushed-next c h t r f (orderCarried o) a = record { stands = f .stands; flushed = f .flushed }
+flushed-next c h t r f (entryWritten e) a = record { stands = f .stands; flushed = f .flushed }
 
-pub firm-grown : (c : Catalogue) (h : History) → Told c h → (r : Logged) → Firm h r → {v : History} → Grown c h v → Firm v r
-firm-grown c h t r f still = f
-firm-grown c h t r f (more {v} {e} g a) = firm-next c v (told-grown c h t g) r (firm-grown c h t r f g) e a
+pub flushed-stays : (c : Catalogue) (h : History) → HistoryInvariant c h → (r : Logged) → FlushedIn h r → {v : History} → Extends c h v → FlushedIn v r
+flushed-stays c h t r f still = f
+flushed-stays c h t r f (more {v} {e} g a) = flushed-next c v (extends-keeps c h t g) r (flushed-stays c h t r f g) e a
 
 -- ---- kept
 
-pub kept-stands : (c : Catalogue) (h : History) → Told c h → (r : Logged) → In r (recordsOf h) → recordNumbered (r .number) h ≡ some r
+pub kept-stands : (c : Catalogue) (h : History) → HistoryInvariant c h → (r : Logged) → In r (recordsOf h) → recordNumbered (r .number) h ≡ some r
 kept-stands c h t r i = numbered-found (length h) (recordsOf h) (t .numbered) r i
 
-pub kept-next : (c : Catalogue) (h : History) → Told c h → (r : Logged) → In r (recordsOf h) → isPrepare (r .content .status) ≡ true → IfFound (Completes r) (nextOf r h)
+pub kept-next : (c : Catalogue) (h : History) → HistoryInvariant c h → (r : Logged) → In r (recordsOf h) → isPrepare (r .content .status) ≡ true → IfFound (Completes r) (nextOf r h)
 kept-next c h t r i p = go (after-prepare c (length h) (recordsOf h) (t .come) (t .ends) (t .numbered) r i p)
   where
     go : After r (recordsOf h) → IfFound (Completes r) (nextOf r h)
@@ -82,15 +82,15 @@ kept-next c h t r i p = go (after-prepare c (length h) (recordsOf h) (t .come) (
     go (completed k) = found-with (Completes r) (nextOf r h) k (λ x e g. rw e g)
 
 -- of each flushed prepare
-pub flushed-firm : (h : History) (P : Logged → Type 0) → ((r : Logged) → Firm h r → isPrepare (r .content .status) ≡ true → P r) → Each P (flushedPrepares h)
-flushed-firm h P f =
+pub each-flushed-prepare : (h : History) (P : Logged → Type 0) → ((r : Logged) → FlushedIn h r → isPrepare (r .content .status) ≡ true → P r) → Each P (flushedPrepares h)
+each-flushed-prepare h P f =
     each-filter P (isFlushedPrepare h) (recordsOf h)
     (in-each _ (recordsOf h) (λ r i e. f r (record { stands = i; flushed = leb-true (r .end) (flushedOf h) (and-right (isPrepare (r .content .status)) (isFlushed h r) e) }) (and-left (isPrepare (r .content .status)) (isFlushed h r) e)))
 
 -- ---- under its verdict
 
 -- an entry of a completed prepare's transaction
-under-completed : (c : Catalogue) (h : History) → Told c h → (q : Logged) → In q (recordsOf h) → isCompleted h q ≡ true → (p : Entry) → In p (entriesOf h) → Within h q p
+under-completed : (c : Catalogue) (h : History) → HistoryInvariant c h → (q : Logged) → In q (recordsOf h) → isCompleted h q ≡ true → (p : Entry) → In p (entriesOf h) → InTransaction h q p
     → statusCode (q .content .status) ≡ underOf h p + 1
 under-completed c h t q i e p j w = go (standing-at c h t p j)
   where
@@ -98,8 +98,8 @@ under-completed c h t q i e p j w = go (standing-at c h t p j)
     prepares = and-left (isPrepare (q .content .status)) _ e
 
     is : nthPrepare (p .what .name) (ordinalOf p) (recordsOf h) ≡ some q
-    is = each-in (λ (p : Entry). Within h q p → nthPrepare (p .what .name) (ordinalOf p) (recordsOf h) ≡ some q) (entriesOf h) p
-        (each-in (λ (q : Logged). isPrepare (q .content .status) ≡ true → Each (λ (p : Entry). Within h q p → nthPrepare (p .what .name) (ordinalOf p) (recordsOf h) ≡ some q) (entriesOf h)) (recordsOf h) q (t .apart) i prepares) j w
+    is = each-in (λ (p : Entry). InTransaction h q p → nthPrepare (p .what .name) (ordinalOf p) (recordsOf h) ≡ some q) (entriesOf h) p
+        (each-in (λ (q : Logged). isPrepare (q .content .status) ≡ true → Each (λ (p : Entry). InTransaction h q p → nthPrepare (p .what .name) (ordinalOf p) (recordsOf h) ≡ some q) (entriesOf h)) (recordsOf h) q (t .by-ordinal) i prepares) j w
 
     not-latest : nextOf q h ≡ none → ⊥
     not-latest n =
@@ -116,17 +116,17 @@ under-completed c h t q i e p j w = go (standing-at c h t p j)
         latest-q (f ∙ ap some same)
 
     go : Standing (underOf h p) (recordsOf h) p → statusCode (q .content .status) ≡ underOf h p + 1
-    go (stillOpen z f) = found-with (Busy p (recordsOf h)) (latestIn (p .what .name) (recordsOf h)) f (λ l g b. absurd (open-case l g (b .stage)))
+    go (stillOpen z f) = found-with (OpenTransaction p (recordsOf h)) (latestIn (p .what .name) (recordsOf h)) f (λ l g b. absurd (open-case l g (b .stage)))
     go (closed f) = is-found (Closes (underOf h p) p) is f .verdict
 
-pub under-verdict : (c : Catalogue) (h : History) → Told c h → Each (λ (q : Logged). Each (StandsUnder h (q .content .status)) (transaction q h)) (completedPrepares h)
+pub under-verdict : (c : Catalogue) (h : History) → HistoryInvariant c h → Each (λ (q : Logged). Each (StandsUnder h (q .content .status)) (transaction q h)) (completedPrepares h)
 under-verdict c h t =
     each-filter _ (isCompleted h) (recordsOf h)
     (in-each _ (recordsOf h) (λ q i e.
     let since = numberAfter (preparedBefore (q .content .name) (eventsBefore (q .number) h)) in
     each-filter (StandsUnder h (q .content .status)) (λ (p : Entry). same (p .what .name) (q .content .name) && leb since (length (p .before)) && ltb (length (p .before)) (q .number)) (entriesOf h)
     (in-each _ (entriesOf h) (λ p j s.
-    let within : Within h q p = record {
+    let within : InTransaction h q p = record {
       name = same-true (p .what .name) (q .content .name) (search (and-left, and-right));
       since = leb-true since (length (p .before)) (search (and-left, and-right));
       before = ltb-true (length (p .before)) (q .number) (search (and-left, and-right));

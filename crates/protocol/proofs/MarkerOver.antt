@@ -39,12 +39,12 @@ module _ (x pid : ℕ) where
   kind-marked (orderCarried o) h = sym (first-zero _)
   kind-marked (entryWritten e) h = sym (first-zero _)
 
-  none-marked : findLast fits (collect markersIn []) ≡ none
+  none-open-marked : findLast fits (collect markersIn []) ≡ none
   unfolding collect findLast
-  none-marked = refl
+  none-open-marked = refl
 
   marked-kind : (n : ℕ) (h : History) → markedFrom x pid n h ≡ kindOf (findLast fits (collect markersIn (eventsFrom n h)))
-  marked-kind n [] = let z : 0 - n ≡ 0 = omega arith in rw (z, none-marked) (unfold markedFrom in refl)
+  marked-kind n [] = let z : 0 - n ≡ 0 = omega arith in rw (z, none-open-marked) (unfold markedFrom in refl)
   marked-kind n (e ∷ h) =
       either (leb n (length h))
       (λ t.
@@ -54,7 +54,7 @@ module _ (x pid : ℕ) where
       (λ t.
       let high = leb-false n (length h) t in
       let z : suc (length h) - n ≡ 0 = omega arith in
-      marked-new x pid n e h high ∙ rw (z, none-marked) refl)
+      marked-new x pid n e h high ∙ rw (z, none-open-marked) refl)
 
 pub under-over : (h : History) (p : Entry) → underOf h p ≡ kindOf (markerOver h p)
 under-over h p = marked-kind (p .what .position) (toNat (p .what .pid)) (suc (length (p .before))) h

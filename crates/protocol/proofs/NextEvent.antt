@@ -32,12 +32,12 @@ use Rattle.runs.specs.History.{Order, Produced, Event, recordAppended, logFlush
 use Rattle.runs.specs.Demand3.{Completes, Entitled, IsFor}
 use Rattle.protocol.specs.RecordsOfName.{latestIn, isPrepareOf, preparesIn, nthPrepare}
 use Rattle.protocol.specs.Entries.{Entry, entriesOf, ordinalOf, kindIn, firstOf, underOf}
-use Rattle.protocol.specs.HistoryInvariant.{Stage, begun, prepared, Busy, Closes, Standing, stillOpen, closed, Within, Marks, Shut, Told}
+use Rattle.protocol.specs.HistoryInvariant.{Stage, begun, prepared, OpenTransaction, Closes, Standing, stillOpen, closed, InTransaction, Marks, AlreadyClosed, HistoryInvariant}
 use Rattle.protocol.specs.NextEvent.{NothingOpen, Appendable, Markable, Writable, MayBeNext}
 use Rattle.protocol.proofs.Lists.{none-some, some-same, found-is, found-with, if-found-is, In, each-in, in-each, find-hit, find-miss, find-in, find-passes, either}
 use Rattle.protocol.proofs.Records.{ending-stays, ending-drops, ending-all, ending-again, ending-in, ending-each, ending-ends, ending-come, ending-numbered, numbered-below, numbered-more, numbered-same, prepares-other, is-of, latest-name, latest-settled, next-follows, next-completes, After, latest, completed, after-prepare, come-record}
 use Rattle.protocol.proofs.ProducerIds.{pid-owner}
-use Rattle.protocol.proofs.Entries.{collect-quiet, before-quiet, entry-before, events-before, events-all, under-next, under-quiet, under-new, first-open, first-kept, count-first, count-other, prepares-more, prepares-same, nth-here, nth-is, nth-more, nth-ending, nth-latest, latest-ends, find-newest}
+use Rattle.protocol.proofs.Entries.{collect-same, collect-before-same, entry-before, events-before, events-all, under-next, under-same, under-new, first-open, first-kept, count-first, count-other, prepares-more, prepares-same, nth-here, nth-is, nth-more, nth-ending, nth-latest, latest-ends, find-newest}
 
 -- ---- statuses
 
@@ -62,11 +62,11 @@ pub under-each : (h : History) (e : Event) → ((position pid : ℕ) → kindIn 
     → Each (λ (p : Entry). P (underOf (e ∷ h) p) p) (entriesOf h)
 under-each h e q P i =
     in-each (λ (p : Entry). P (underOf (e ∷ h) p) p) (entriesOf h)
-    (λ p j. subst (λ (n : ℕ). P n p) (sym (under-quiet e h p (entry-before h p j) (q (p .what .position) (toNat (p .what .pid))))) (each-in (λ (p : Entry). P (underOf h p) p) (entriesOf h) p i j))
+    (λ p j. subst (λ (n : ℕ). P n p) (sym (under-same e h p (entry-before h p j) (q (p .what .position) (toNat (p .what .pid))))) (each-in (λ (p : Entry). P (underOf h p) p) (entriesOf h) p i j))
 
 -- an entry that is of a prepare's transaction was so before
-within-before : (h : History) (e : Event) (q : Logged) → q .number ≤ length h → (p : Entry) → Within (e ∷ h) q p → Within h q p
-within-before h e q b p w =
+in-transaction-before : (h : History) (e : Event) (q : Logged) → q .number ≤ length h → (p : Entry) → InTransaction (e ∷ h) q p → InTransaction h q p
+in-transaction-before h e q b p w =
     record {
       name = w .name;
       since = subst (λ (v : History). numberAfter (preparedBefore (q .content .name) v) ≤ length (p .before)) (events-before (q .number) e h b) (w .since);
@@ -76,7 +76,7 @@ within-before h e q b p w =
 -- ---- events that write neither a record nor an entry
 
 -- what is left of the records is what some cut leaves, and so after every cut
-pub record Quiet (h : History) (e : Event) : Type 0 where
+pub record WritesNothing (h : History) (e : Event) : Type 0 where
   pub no-entry : producedIn e ≡ []
   pub no-marker : markersIn e ≡ []
   pub no-kind : (position pid : ℕ) → kindIn position pid e ≡ 0
@@ -85,9 +85,9 @@ pub record Quiet (h : History) (e : Event) : Type 0 where
   pub views : (k : ℕ) → flushedOf (e ∷ h) ≤ k → (m : ℕ) × (flushedOf h ≤ m) × (endingBy k (recordsOf (e ∷ h)) ≡ endingBy m (recordsOf h))
 
 module _ (h : History) where
-  pub flush-quiet : (n : ℕ) → flushedOf h ≤ n → Quiet h (logFlushed n)
+  pub flush-writes-nothing : (n : ℕ) → flushedOf h ≤ n → WritesNothing h (logFlushed n)
   unfolding recordsOf flushedOf
-  flush-quiet n b =
+  flush-writes-nothing n b =
       record {
         no-entry = refl;
         no-marker = refl;
@@ -97,9 +97,9 @@ module _ (h : History) where
         views = λ k f. (k, omega arith, refl);
       }
 
-  pub cut-quiet : (n : ℕ) → flushedOf h ≤ n → Quiet h (logCut n)
+  pub cut-writes-nothing : (n : ℕ) → flushedOf h ≤ n → WritesNothing h (logCut n)
   unfolding recordsOf flushedOf
-  cut-quiet n b =
+  cut-writes-nothing n b =
       record {
         no-entry = refl;
         no-marker = refl;
@@ -109,9 +109,9 @@ module _ (h : History) where
         views = λ k f. (n, b, ending-again n k (recordsOf h) f);
       }
 
-  pub opened-quiet : (epoch : ℤ) → endOf (recordsOf h) ≤ flushedOf h → Quiet h (logOpened epoch)
+  pub opened-writes-nothing : (epoch : ℤ) → endOf (recordsOf h) ≤ flushedOf h → WritesNothing h (logOpened epoch)
   unfolding recordsOf flushedOf
-  opened-quiet epoch b =
+  opened-writes-nothing epoch b =
       record {
         no-entry = refl;
         no-marker = refl;
@@ -121,9 +121,9 @@ module _ (h : History) where
         views = λ k f. (flushedOf h, omega arith, ending-all k (recordsOf h) f ∙ sym (ending-all (flushedOf h) (recordsOf h) b));
       }
 
-  pub given-quiet : (o : Order) → Quiet h (orderGiven o)
+  pub given-writes-nothing : (o : Order) → WritesNothing h (orderGiven o)
   unfolding recordsOf flushedOf
-  given-quiet o =
+  given-writes-nothing o =
       record {
         no-entry = refl;
         no-marker = refl;
@@ -133,9 +133,9 @@ module _ (h : History) where
         views = λ k g. (k, g, refl);
       }
 
-  pub carried-quiet : (o : Order) → Quiet h (orderCarried o)
+  pub carried-writes-nothing : (o : Order) → WritesNothing h (orderCarried o)
   unfolding recordsOf flushedOf
-  carried-quiet o =
+  carried-writes-nothing o =
       record {
         no-entry = refl;
         no-marker = refl;
@@ -148,18 +148,18 @@ module _ (h : History) where
 abbrev OrdersFor : History → Type 0
 OrdersFor h = Each (λ (p : WithBefore Order). Found (IsFor (p .what) (p .before)) (recordNumbered (p .what .for) (p .before))) (collectWithBefore ordersIn h)
 
-module _ (c : Catalogue) (h : History) (t : Told c h) where
+module _ (c : Catalogue) (h : History) (t : HistoryInvariant c h) where
   below : (q : Logged) → In q (recordsOf h) → q .number < length h
   below q i = each-in (λ (x : Logged). x .number < length h) (recordsOf h) q (numbered-below (length h) (recordsOf h) (t .numbered)) i
 
-  was-apart : (q : Logged) → In q (recordsOf h) → isPrepare (q .content .status) ≡ true → (p : Entry) → In p (entriesOf h) → Within h q p
+  ordinal-was : (q : Logged) → In q (recordsOf h) → isPrepare (q .content .status) ≡ true → (p : Entry) → In p (entriesOf h) → InTransaction h q p
       → nthPrepare (p .what .name) (ordinalOf p) (recordsOf h) ≡ some q
-  was-apart q i r p j =
-      each-in (λ (p : Entry). Within h q p → nthPrepare (p .what .name) (ordinalOf p) (recordsOf h) ≡ some q) (entriesOf h) p
-      (each-in (λ (q : Logged). isPrepare (q .content .status) ≡ true → Each (λ (p : Entry). Within h q p → nthPrepare (p .what .name) (ordinalOf p) (recordsOf h) ≡ some q) (entriesOf h)) (recordsOf h) q (t .apart) i r) j
+  ordinal-was q i r p j =
+      each-in (λ (p : Entry). InTransaction h q p → nthPrepare (p .what .name) (ordinalOf p) (recordsOf h) ≡ some q) (entriesOf h) p
+      (each-in (λ (q : Logged). isPrepare (q .content .status) ≡ true → Each (λ (p : Entry). InTransaction h q p → nthPrepare (p .what .name) (ordinalOf p) (recordsOf h) ≡ some q) (entriesOf h)) (recordsOf h) q (t .by-ordinal) i r) j
 
-  quiet-told : (e : Event) → Quiet h e → OrdersFor (e ∷ h) → Told c (e ∷ h)
-  quiet-told e q orders =
+  writes-nothing-keeps : (e : Event) → WritesNothing h e → OrdersFor (e ∷ h) → HistoryInvariant c (e ∷ h)
+  writes-nothing-keeps e q orders =
       record {
         come = rw (q .left-is) (ending-come (q .left) c (recordsOf h) (t .come));
         ends = rw (q .left-is) (ending-ends (q .left) c (recordsOf h) (t .ends));
@@ -167,49 +167,49 @@ module _ (c : Catalogue) (h : History) (t : Told c h) where
         entitled = rw same-entries (t .entitled);
         standing = λ k b. let (m, f, v) = q .views k b in
             rw (v, same-entries) (under-each h e (q .no-kind) (λ (n : ℕ) (p : Entry). Standing n (endingBy m (recordsOf h)) p) (t .standing m f));
-        apart = rw (q .left-is, same-entries)
+        by-ordinal = rw (q .left-is, same-entries)
             (in-each _ (endingBy (q .left) (recordsOf h))
             (λ r i prepares. in-each _ (entriesOf h)
             (λ p j w.
             let k = ending-in (q .left) (recordsOf h) r i in
             nth-ending (p .what .name) (q .left) (length h) (recordsOf h) (t .numbered) (ordinalOf p) r
-            (was-apart r k prepares p j (within-before h e r (let b = below r k in omega arith) p w)) i)));
+            (ordinal-was r k prepares p j (in-transaction-before h e r (let b = below r k in omega arith) p w)) i)));
         for-prepare = orders;
         marks = rw (same-markers, q .left-is)
             (each-then (λ (m : Order). (m .for < length h) × Each (λ (r : Logged). r .number ≡ m .for → Marks m r) (recordsOf h))
             (λ (m : Order). (m .for < suc (length h)) × Each (λ (r : Logged). r .number ≡ m .for → Marks m r) (endingBy (q .left) (recordsOf h)))
             (λ m i. (let b = i .0 in omega arith, ending-each (q .left) (λ (r : Logged). r .number ≡ m .for → Marks m r) (recordsOf h) (i .1))) (collect markersIn h) (t .marks));
-        shut = λ k b. let (m, f, v) = q .views k b in
+        already-closed = λ k b. let (m, f, v) = q .views k b in
             rw (v, same-markers, same-entries)
-            (each-then (λ (o : Order). Each (λ (p : Entry). Shut (underOf h p) (endingBy m (recordsOf h)) o p) (entriesOf h))
-            (λ (o : Order). Each (λ (p : Entry). Shut (underOf (e ∷ h) p) (endingBy m (recordsOf h)) o p) (entriesOf h))
-            (λ o i. under-each h e (q .no-kind) (λ (n : ℕ) (p : Entry). Shut n (endingBy m (recordsOf h)) o p) i) (collect markersIn h) (t .shut m f));
-        one = rw same-markers (t .one);
+            (each-then (λ (o : Order). Each (λ (p : Entry). AlreadyClosed (underOf h p) (endingBy m (recordsOf h)) o p) (entriesOf h))
+            (λ (o : Order). Each (λ (p : Entry). AlreadyClosed (underOf (e ∷ h) p) (endingBy m (recordsOf h)) o p) (entriesOf h))
+            (λ o i. under-each h e (q .no-kind) (λ (n : ℕ) (p : Entry). AlreadyClosed n (endingBy m (recordsOf h)) o p) i) (collect markersIn h) (t .already-closed m f));
+        one-marker = rw same-markers (t .one-marker);
       }
     where
       same-entries : entriesOf (e ∷ h) ≡ entriesOf h
-      same-entries = before-quiet producedIn e h (q .no-entry)
+      same-entries = collect-before-same producedIn e h (q .no-entry)
 
       same-markers : collect markersIn (e ∷ h) ≡ collect markersIn h
-      same-markers = collect-quiet markersIn e h (q .no-marker)
+      same-markers = collect-same markersIn e h (q .no-marker)
 
   -- ---- Flush, a cut and an opening: one law; Order, and the end of a carrying
 
-  flushed-told : (n : ℕ) → flushedOf h ≤ n → Told c (logFlushed n ∷ h)
-  flushed-told n b = quiet-told (logFlushed n) (flush-quiet h n b) (rw (before-quiet ordersIn (logFlushed n) h refl) (t .for-prepare))
+  flush-keeps : (n : ℕ) → flushedOf h ≤ n → HistoryInvariant c (logFlushed n ∷ h)
+  flush-keeps n b = writes-nothing-keeps (logFlushed n) (flush-writes-nothing h n b) (rw (collect-before-same ordersIn (logFlushed n) h refl) (t .for-prepare))
 
-  cut-told : (n : ℕ) → flushedOf h ≤ n → Told c (logCut n ∷ h)
-  cut-told n b = quiet-told (logCut n) (cut-quiet h n b) (rw (before-quiet ordersIn (logCut n) h refl) (t .for-prepare))
+  cut-keeps : (n : ℕ) → flushedOf h ≤ n → HistoryInvariant c (logCut n ∷ h)
+  cut-keeps n b = writes-nothing-keeps (logCut n) (cut-writes-nothing h n b) (rw (collect-before-same ordersIn (logCut n) h refl) (t .for-prepare))
 
-  opened-told : (epoch : ℤ) → endOf (recordsOf h) ≤ flushedOf h → Told c (logOpened epoch ∷ h)
-  opened-told epoch b = quiet-told (logOpened epoch) (opened-quiet h epoch b) (rw (before-quiet ordersIn (logOpened epoch) h refl) (t .for-prepare))
+  opened-keeps : (epoch : ℤ) → endOf (recordsOf h) ≤ flushedOf h → HistoryInvariant c (logOpened epoch ∷ h)
+  opened-keeps epoch b = writes-nothing-keeps (logOpened epoch) (opened-writes-nothing h epoch b) (rw (collect-before-same ordersIn (logOpened epoch) h refl) (t .for-prepare))
 
-  given-told : (o : Order) → Found (IsFor o h) (recordNumbered (o .for) h) → Told c (orderGiven o ∷ h)
+  given-keeps : (o : Order) → Found (IsFor o h) (recordNumbered (o .for) h) → HistoryInvariant c (orderGiven o ∷ h)
   unfolding collectWithBefore
-  given-told o f = quiet-told (orderGiven o) (given-quiet h o) (f, t .for-prepare)
+  given-keeps o f = writes-nothing-keeps (orderGiven o) (given-writes-nothing h o) (f, t .for-prepare)
 
-  carried-told : (o : Order) → Told c (orderCarried o ∷ h)
-  carried-told o = quiet-told (orderCarried o) (carried-quiet h o) (rw (before-quiet ordersIn (orderCarried o) h refl) (t .for-prepare))
+  carried-keeps : (o : Order) → HistoryInvariant c (orderCarried o ∷ h)
+  carried-keeps o = writes-nothing-keeps (orderCarried o) (carried-writes-nothing h o) (rw (collect-before-same ordersIn (orderCarried o) h refl) (t .for-prepare))
 
   -- ---- all records: the view of the last cut
 
@@ -243,8 +243,8 @@ module _ (c : Catalogue) (h : History) (t : Told c h) where
     stage-other p l e (prepared s q b) = prepared s (e ∙ q) b
 
     -- an open entry of the record's own name
-    own : (p : Entry) → In p (entriesOf h) → underOf h p ≡ 0 → (l : Logged) → latestIn (p .what .name) (recordsOf h) ≡ some l → Busy p (recordsOf h) l → isOf (p .what .name) new ≡ true
-        → Busy p (new ∷ recordsOf h) new
+    own : (p : Entry) → In p (entriesOf h) → underOf h p ≡ 0 → (l : Logged) → latestIn (p .what .name) (recordsOf h) ≡ some l → OpenTransaction p (recordsOf h) l → isOf (p .what .name) new ≡ true
+        → OpenTransaction p (new ∷ recordsOf h) new
     own p j z l e b y = go (step-from l is) (b .stage)
       where
         name : r .name ≡ p .what .name
@@ -260,7 +260,7 @@ module _ (c : Catalogue) (h : History) (t : Told c h) where
         not-idle (begun s q) i = let k : true ≡ false = sym i ∙ ap idle s in true≢false k
         not-idle (prepared s q u) i = prepare-idle (l .content .status) s i
 
-        to-prepare : isPrepare (r .status) ≡ true → r .joined ≡ l .content .joined → r .pid ≡ pos (toNat (l .content .pid)) → l .content .status ≡ Begin → Stage p (recordsOf h) l → Busy p (new ∷ recordsOf h) new
+        to-prepare : isPrepare (r .status) ≡ true → r .joined ≡ l .content .joined → r .pid ≡ pos (toNat (l .content .pid)) → l .content .status ≡ Begin → Stage p (recordsOf h) l → OpenTransaction p (new ∷ recordsOf h) new
         to-prepare s f q u (begun v w) =
             record {
               pid = pid-same q;
@@ -269,7 +269,7 @@ module _ (c : Catalogue) (h : History) (t : Told c h) where
             }
         to-prepare s f q u (prepared v w x) = absurd (let k : _≡_ {A = Bool} true false = sym v ∙ ap isPrepare u in true≢false k)
 
-        go : Move (tableOf c (contents (recordsOf h)) .next) (held (l .content) (l .end)) r → Stage p (recordsOf h) l → Busy p (new ∷ recordsOf h) new
+        go : Move (tableOf c (contents (recordsOf h)) .next) (held (l .content) (l .end)) r → Stage p (recordsOf h) l → OpenTransaction p (new ∷ recordsOf h) new
         go (raising i s m) g = absurd (not-idle g i)
         go (renewing i s m) g = absurd (not-idle g i)
         go (beginning i s m) g = absurd (not-idle g i)
@@ -286,15 +286,15 @@ module _ (c : Catalogue) (h : History) (t : Told c h) where
             absurd (each-in (λ (p : Entry). p .what .name ≡ r .name → underOf h p ≡ 0 → ⊥) (entriesOf h) p
             (if-found-is (λ (x : Logged). isPrepare (x .content .status) ≡ true → NothingOpen (r .name) h) is (a .last) i) j (sym name) z)
 
-    grown : (p : Entry) → In p (entriesOf h) → Standing (underOf h p) (recordsOf h) p → Standing (underOf h p) (new ∷ recordsOf h) p
-    grown p j (closed f) =
+    extends : (p : Entry) → In p (entriesOf h) → Standing (underOf h p) (recordsOf h) p → Standing (underOf h p) (new ∷ recordsOf h) p
+    extends p j (closed f) =
         closed (found-with (Closes (underOf h p) p) (nthPrepare (p .what .name) (ordinalOf p) (recordsOf h)) f
         (λ q e k. found-is (Closes (underOf h p) p) (nth-more (p .what .name) new (recordsOf h) (ordinalOf p) q e) k))
-    grown p j (stillOpen z f) =
-        stillOpen z (found-with (Busy p (recordsOf h)) (latestIn (p .what .name) (recordsOf h)) f
+    extends p j (stillOpen z f) =
+        stillOpen z (found-with (OpenTransaction p (recordsOf h)) (latestIn (p .what .name) (recordsOf h)) f
         (λ l e b. either (isOf (p .what .name) new)
-        (λ y. found-is (Busy p (new ∷ recordsOf h)) (find-hit (isOf (p .what .name)) new (recordsOf h) y) (own p j z l e b y))
-        (λ y. found-is (Busy p (new ∷ recordsOf h)) (find-miss (isOf (p .what .name)) new (recordsOf h) y ∙ e)
+        (λ y. found-is (OpenTransaction p (new ∷ recordsOf h)) (find-hit (isOf (p .what .name)) new (recordsOf h) y) (own p j z l e b y))
+        (λ y. found-is (OpenTransaction p (new ∷ recordsOf h)) (find-miss (isOf (p .what .name)) new (recordsOf h) y ∙ e)
         (record { pid = b .pid; joined = b .joined; stage = stage-other p l (prepares-other (p .what .name) new (recordsOf h) y) (b .stage) }))))
 
     -- the record is behind all that there are
@@ -302,7 +302,7 @@ module _ (c : Catalogue) (h : History) (t : Told c h) where
     past = omega (arith, a .ends)
 
     -- a prepare and the entries of its transaction: no prepare of its name came after them
-    joins : isPrepare (r .status) ≡ true → (p : Entry) → In p (entriesOf h) → Within (appending ∷ h) new p → nthPrepare (p .what .name) (ordinalOf p) (new ∷ recordsOf h) ≡ some new
+    joins : isPrepare (r .status) ≡ true → (p : Entry) → In p (entriesOf h) → InTransaction (appending ∷ h) new p → nthPrepare (p .what .name) (ordinalOf p) (new ∷ recordsOf h) ≡ some new
     joins prepares p j w = go (standing-at p j)
       where
         mine : isPrepareOf (p .what .name) new ≡ true
@@ -330,40 +330,40 @@ module _ (c : Catalogue) (h : History) (t : Told c h) where
             (λ y g n. let z : numberAfter (some y) ≤ length (p .before) = subst (λ (v : Option Logged). numberAfter v ≤ length (p .before)) g since in omega arith))
 
         go : Standing (underOf h p) (recordsOf h) p → nthPrepare (p .what .name) (ordinalOf p) (new ∷ recordsOf h) ≡ some new
-        go (stillOpen z f) = found-with (Busy p (recordsOf h)) (latestIn (p .what .name) (recordsOf h)) f (λ l e b. open-case l e (b .stage))
+        go (stillOpen z f) = found-with (OpenTransaction p (recordsOf h)) (latestIn (p .what .name) (recordsOf h)) f (λ l e b. open-case l e (b .stage))
         go (closed f) = found-with (Closes (underOf h p) p) (nthPrepare (p .what .name) (ordinalOf p) (recordsOf h)) f (λ q e k. absurd (late q e (k .later)))
 
-    appended-told : Told c (appending ∷ h)
-    appended-told =
+    appended-keeps : HistoryInvariant c (appending ∷ h)
+    appended-keeps =
         record {
           come = rw records (come-newest c emptyTable r (contents (recordsOf h)) (t .come) (a .formed) (a .comes));
           ends = rw records (a .ends, t .ends);
           numbered = rw records (omega arith, t .numbered);
           entitled = rw same-entries (t .entitled);
           standing = λ k b. rw (records, same-entries) (under-each h appending (λ position pid. refl) (λ (n : ℕ) (p : Entry). Standing n (endingBy k (new ∷ recordsOf h)) p) (standing-cut k (rw flushed at b)));
-          apart = rw (records, same-entries) (
+          by-ordinal = rw (records, same-entries) (
             λ prepares. in-each _ (entriesOf h) (λ p j w. joins prepares p j w),
             in-each _ (recordsOf h) (λ q i prepares. in-each _ (entriesOf h)
-                (λ p j w. nth-more (p .what .name) new (recordsOf h) (ordinalOf p) q (was-apart q i prepares p j (within-before h appending q (let b = below q i in omega arith) p w)))),
+                (λ p j w. nth-more (p .what .name) new (recordsOf h) (ordinalOf p) q (ordinal-was q i prepares p j (in-transaction-before h appending q (let b = below q i in omega arith) p w)))),
           );
           for-prepare = rw same-orders (t .for-prepare);
           marks = rw (same-markers, records)
               (each-then (λ (m : Order). (m .for < length h) × Each (λ (x : Logged). x .number ≡ m .for → Marks m x) (recordsOf h))
               (λ (m : Order). (m .for < suc (length h)) × Each (λ (x : Logged). x .number ≡ m .for → Marks m x) (new ∷ recordsOf h))
               (λ m i. let b = i .0 in (omega arith, (λ q. absurd (omega arith), i .1))) (collect markersIn h) (t .marks));
-          shut = λ k b. rw (records, same-markers, same-entries)
-              (in-each _ (collect markersIn h) (λ o i. under-each h appending (λ position pid. refl) (λ (n : ℕ) (p : Entry). Shut n (endingBy k (new ∷ recordsOf h)) o p) (shut-cut k (rw flushed at b) o i)));
-          one = rw same-markers (t .one);
+          already-closed = λ k b. rw (records, same-markers, same-entries)
+              (in-each _ (collect markersIn h) (λ o i. under-each h appending (λ position pid. refl) (λ (n : ℕ) (p : Entry). AlreadyClosed n (endingBy k (new ∷ recordsOf h)) o p) (already-closed-cut k (rw flushed at b) o i)));
+          one-marker = rw same-markers (t .one-marker);
         }
       where
         same-entries : entriesOf (appending ∷ h) ≡ entriesOf h
-        same-entries = before-quiet producedIn appending h refl
+        same-entries = collect-before-same producedIn appending h refl
 
         same-orders : collectWithBefore ordersIn (appending ∷ h) ≡ collectWithBefore ordersIn h
-        same-orders = before-quiet ordersIn appending h refl
+        same-orders = collect-before-same ordersIn appending h refl
 
         same-markers : collect markersIn (appending ∷ h) ≡ collect markersIn h
-        same-markers = collect-quiet markersIn appending h refl
+        same-markers = collect-same markersIn appending h refl
 
         records : recordsOf (appending ∷ h) ≡ new ∷ recordsOf h
         records = unfold recordsOf in refl
@@ -373,22 +373,22 @@ module _ (c : Catalogue) (h : History) (t : Told c h) where
 
         standing-cut : (k : ℕ) → flushedOf h ≤ k → Each (λ (p : Entry). Standing (underOf h p) (endingBy k (new ∷ recordsOf h)) p) (entriesOf h)
         standing-cut k b =
-            either (leb end k) (λ e. rw (ending-stays k new (recordsOf h) (leb-true end k e)) (in-each _ (entriesOf h) (λ p j. grown p j (standing-at p j))))
+            either (leb end k) (λ e. rw (ending-stays k new (recordsOf h) (leb-true end k e)) (in-each _ (entriesOf h) (λ p j. extends p j (standing-at p j))))
             (λ e. rw (ending-drops k new (recordsOf h) (leb-false end k e)) (t .standing k b))
 
-        shut-cut : (k : ℕ) → flushedOf h ≤ k → (o : Order) → In o (collect markersIn h) → Each (λ (p : Entry). Shut (underOf h p) (endingBy k (new ∷ recordsOf h)) o p) (entriesOf h)
-        shut-cut k b o i =
+        already-closed-cut : (k : ℕ) → flushedOf h ≤ k → (o : Order) → In o (collect markersIn h) → Each (λ (p : Entry). AlreadyClosed (underOf h p) (endingBy k (new ∷ recordsOf h)) o p) (entriesOf h)
+        already-closed-cut k b o i =
             either (leb end k)
             (λ e.
             let far : end ≤ k = leb-true end k e in
             let for-below : o .for < length h = each-in (λ (m : Order). (m .for < length h) × Each (λ (x : Logged). x .number ≡ m .for → Marks m x) (recordsOf h)) (collect markersIn h) o (t .marks) i .0 in
-            let before : Each (λ (p : Entry). Shut (underOf h p) (recordsOf h) o p) (entriesOf h) = rw (ending-all k (recordsOf h) (let q = past in omega arith)) at (each-in (λ (m : Order). Each (λ (p : Entry). Shut (underOf h p) (endingBy k (recordsOf h)) m p) (entriesOf h)) (collect markersIn h) o (t .shut k b) i) in
+            let before : Each (λ (p : Entry). AlreadyClosed (underOf h p) (recordsOf h) o p) (entriesOf h) = rw (ending-all k (recordsOf h) (let q = past in omega arith)) at (each-in (λ (m : Order). Each (λ (p : Entry). AlreadyClosed (underOf h p) (endingBy k (recordsOf h)) m p) (entriesOf h)) (collect markersIn h) o (t .already-closed k b) i) in
             rw (ending-stays k new (recordsOf h) far)
-            (each-then (λ (p : Entry). Shut (underOf h p) (recordsOf h) o p) (λ (p : Entry). Shut (underOf h p) (new ∷ recordsOf h) o p)
+            (each-then (λ (p : Entry). AlreadyClosed (underOf h p) (recordsOf h) o p) (λ (p : Entry). AlreadyClosed (underOf h p) (new ∷ recordsOf h) o p)
             (λ p s x y z. either (isOf (p .what .name) new)
             (λ m. rw (find-hit (isOf (p .what .name)) new (recordsOf h) m) (λ q. omega arith))
             (λ m. rw (find-miss (isOf (p .what .name)) new (recordsOf h) m) (s x y z))) (entriesOf h) before))
-            (λ e. rw (ending-drops k new (recordsOf h) (leb-false end k e)) (each-in (λ (m : Order). Each (λ (p : Entry). Shut (underOf h p) (endingBy k (recordsOf h)) m p) (entriesOf h)) (collect markersIn h) o (t .shut k b) i))
+            (λ e. rw (ending-drops k new (recordsOf h) (leb-false end k e)) (each-in (λ (m : Order). Each (λ (p : Entry). AlreadyClosed (underOf h p) (endingBy k (recordsOf h)) m p) (entriesOf h)) (collect markersIn h) o (t .already-closed k b) i))
 
   -- ---- an entry
 
@@ -396,8 +396,8 @@ module _ (c : Catalogue) (h : History) (t : Told c h) where
     abbrev written : Entry
     written = record { what = e; before = h }
 
-    entered-told : Told c (entryWritten e ∷ h)
-    entered-told =
+    entry-keeps : HistoryInvariant c (entryWritten e ∷ h)
+    entry-keeps =
         record {
           come = rw records (t .come);
           ends = rw records (t .ends);
@@ -407,33 +407,33 @@ module _ (c : Catalogue) (h : History) (t : Told c h) where
             rw (under-new (entryWritten e) h written (omega arith)) (stillOpen refl (busy k (rw flushed at b))),
             under-each h (entryWritten e) (λ position pid. refl) (λ (n : ℕ) (p : Entry). Standing n (endingBy k (recordsOf h)) p) (t .standing k (rw flushed at b)),
           );
-          apart = rw (records, more-entries)
+          by-ordinal = rw (records, more-entries)
               (in-each _ (recordsOf h) (λ q i prepares. (
                 λ w. absurd (let b = below q i in let d = w .before in omega arith),
-                in-each _ (entriesOf h) (λ p j w. was-apart q i prepares p j (within-before h (entryWritten e) q (let b = below q i in omega arith) p w)),
+                in-each _ (entriesOf h) (λ p j w. ordinal-was q i prepares p j (in-transaction-before h (entryWritten e) q (let b = below q i in omega arith) p w)),
               )));
           for-prepare = rw same-orders (t .for-prepare);
           marks = rw (same-markers, records)
               (each-then (λ (m : Order). (m .for < length h) × Each (λ (x : Logged). x .number ≡ m .for → Marks m x) (recordsOf h))
               (λ (m : Order). (m .for < suc (length h)) × Each (λ (x : Logged). x .number ≡ m .for → Marks m x) (recordsOf h))
               (λ m i. let b = i .0 in (omega arith, i .1)) (collect markersIn h) (t .marks));
-          shut = λ k b. rw (records, same-markers, more-entries)
+          already-closed = λ k b. rw (records, same-markers, more-entries)
               (in-each _ (collect markersIn h) (λ o i. (
-                λ x y z. settled-shut k (rw flushed at b) o i,
-                under-each h (entryWritten e) (λ position pid. refl) (λ (n : ℕ) (p : Entry). Shut n (endingBy k (recordsOf h)) o p)
-                    (each-in (λ (m : Order). Each (λ (p : Entry). Shut (underOf h p) (endingBy k (recordsOf h)) m p) (entriesOf h)) (collect markersIn h) o (t .shut k (rw flushed at b)) i),
+                λ x y z. settled-already-closed k (rw flushed at b) o i,
+                under-each h (entryWritten e) (λ position pid. refl) (λ (n : ℕ) (p : Entry). AlreadyClosed n (endingBy k (recordsOf h)) o p)
+                    (each-in (λ (m : Order). Each (λ (p : Entry). AlreadyClosed (underOf h p) (endingBy k (recordsOf h)) m p) (entriesOf h)) (collect markersIn h) o (t .already-closed k (rw flushed at b)) i),
               )));
-          one = rw same-markers (t .one);
+          one-marker = rw same-markers (t .one-marker);
         }
       where
         more-entries : entriesOf (entryWritten e ∷ h) ≡ written ∷ entriesOf h
         more-entries = unfold collectWithBefore in refl
 
         same-orders : collectWithBefore ordersIn (entryWritten e ∷ h) ≡ collectWithBefore ordersIn h
-        same-orders = before-quiet ordersIn (entryWritten e) h refl
+        same-orders = collect-before-same ordersIn (entryWritten e) h refl
 
         same-markers : collect markersIn (entryWritten e ∷ h) ≡ collect markersIn h
-        same-markers = collect-quiet markersIn (entryWritten e) h refl
+        same-markers = collect-same markersIn (entryWritten e) h refl
 
         records : recordsOf (entryWritten e ∷ h) ≡ recordsOf h
         records = unfold recordsOf in refl
@@ -448,11 +448,11 @@ module _ (c : Catalogue) (h : History) (t : Told c h) where
             found-with (Entitled e h) (latestOf (e .name) h) (a .entitled)
             (λ l i n. let (u, v) = latest-settled (e .name) (flushedOf h) k b (recordsOf h) l i (leb-true (l .end) (flushedOf h) (n .flushed)) in f l i n u v)
 
-        busy : (k : ℕ) → flushedOf h ≤ k → Found (Busy written (endingBy k (recordsOf h))) (latestIn (e .name) (endingBy k (recordsOf h)))
-        busy k b = settled k b (λ l i n u v. found-is (Busy written (endingBy k (recordsOf h))) u (record { pid = n .pid; joined = n .joined; stage = begun (n .status) v }))
+        busy : (k : ℕ) → flushedOf h ≤ k → Found (OpenTransaction written (endingBy k (recordsOf h))) (latestIn (e .name) (endingBy k (recordsOf h)))
+        busy k b = settled k b (λ l i n u v. found-is (OpenTransaction written (endingBy k (recordsOf h))) u (record { pid = n .pid; joined = n .joined; stage = begun (n .status) v }))
 
-        settled-shut : (k : ℕ) → flushedOf h ≤ k → (o : Order) → In o (collect markersIn h) → IfFound (λ (r : Logged). r .number ≡ o .for → ⊥) (latestIn (e .name) (endingBy k (recordsOf h)))
-        settled-shut k b o j =
+        settled-already-closed : (k : ℕ) → flushedOf h ≤ k → (o : Order) → In o (collect markersIn h) → IfFound (λ (r : Logged). r .number ≡ o .for → ⊥) (latestIn (e .name) (endingBy k (recordsOf h)))
+        settled-already-closed k b o j =
             settled k b (λ l i n u v. rw u (λ q.
             let m = each-in (λ (x : Logged). x .number ≡ o .for → Marks o x) (recordsOf h) l (each-in (λ (m : Order). (m .for < length h) × Each (λ (x : Logged). x .number ≡ m .for → Marks m x) (recordsOf h)) (collect markersIn h) o (t .marks) j .1) (find-in (isOf (e .name)) (recordsOf h) l i) q in
             let z : _≡_ {A = Bool} true false = sym (m .prepare) ∙ ap isPrepare (n .status) in
@@ -481,7 +481,7 @@ module _ (c : Catalogue) (h : History) (t : Told c h) where
       where
         go : Standing (underOf h p) (recordsOf h) p → q .content .name ≡ p .what .name
         go (stillOpen y b) =
-            found-with (Busy p (recordsOf h)) (latestIn (p .what .name) (recordsOf h)) b
+            found-with (OpenTransaction p (recordsOf h)) (latestIn (p .what .name) (recordsOf h)) b
             (λ l e k. pid-owner c (recordsOf h) (t .come) (t .ends) q l i (find-in (isOf (p .what .name)) (recordsOf h) l e) (f .pid ∙ sym x ∙ sym (k .pid)) ∙ latest-name (p .what .name) (recordsOf h) l e)
         go (closed b) =
             found-with (Closes (underOf h p) p) (nthPrepare (p .what .name) (ordinalOf p) (recordsOf h)) b
@@ -495,7 +495,7 @@ module _ (c : Catalogue) (h : History) (t : Told c h) where
     after-hit p j e = under-next (markerWritten o) h p (entry-before h p j) ∙ ap (firstOf (underOf h p)) (rw e)
 
     after-miss : (p : Entry) → In p (entriesOf h) → hits p ≡ false → underOf (markerWritten o ∷ h) p ≡ underOf h p
-    after-miss p j e = under-quiet (markerWritten o) h p (entry-before h p j) (rw e)
+    after-miss p j e = under-same (markerWritten o) h p (entry-before h p j) (rw e)
 
     hit-is : (p : Entry) → p .what .position ≡ o .position → p .what .pid ≡ o .pid → hits p ≡ true
     hit-is p x y = and-both (eqb (o .position) (p .what .position)) (eqb (toNat (o .pid)) (toNat (p .what .pid))) (eq-eqb (o .position) (p .what .position) (sym x)) (eq-eqb (toNat (o .pid)) (toNat (p .what .pid)) (ap toNat (sym y)))
@@ -509,10 +509,10 @@ module _ (c : Catalogue) (h : History) (t : Told c h) where
         let n : underOf h p ≡ 0 → ⊥ = λ z. omega (arith, g .verdict) in
         subst (λ (u : ℕ). Standing u (endingBy k (recordsOf h)) p) (sym (first-kept (underOf h p) (o .verdict + 1) n)) (closed f))
     closes k b p j e (stillOpen z f) =
-        found-with (Busy p (endingBy k (recordsOf h))) (latestIn (p .what .name) (endingBy k (recordsOf h))) f
+        found-with (OpenTransaction p (endingBy k (recordsOf h))) (latestIn (p .what .name) (endingBy k (recordsOf h))) f
         (λ l i g. marked (λ q r s d. rw z (go l i g q r d)))
       where
-        go : (l : Logged) → latestIn (p .what .name) (endingBy k (recordsOf h)) ≡ some l → Busy p (endingBy k (recordsOf h)) l → (q : Logged) → In q (recordsOf h) → IsFor o h q
+        go : (l : Logged) → latestIn (p .what .name) (endingBy k (recordsOf h)) ≡ some l → OpenTransaction p (endingBy k (recordsOf h)) l → (q : Logged) → In q (recordsOf h) → IsFor o h q
             → Standing (o .verdict + 1) (endingBy k (recordsOf h)) p
         go l i g q r d =
             let there-l = ending-in k (recordsOf h) l (find-in (isOf (p .what .name)) (endingBy k (recordsOf h)) l i) in
@@ -532,12 +532,12 @@ module _ (c : Catalogue) (h : History) (t : Told c h) where
                 closed (found-is (Closes (o .verdict + 1) p) (nth-latest (p .what .name) (endingBy k (recordsOf h)) (ordinalOf p) q is s v) (record { verdict = omega (arith, d .verdict); later = w }))
 
     -- no marker of that prepare stands there yet
-    shut-all : (m : Order) → In m (collect markersIn h) → (p : Entry) → In p (entriesOf h) → Shut (underOf h p) (recordsOf h) m p
-    shut-all m i p j =
+    already-closed-all : (m : Order) → In m (collect markersIn h) → (p : Entry) → In p (entriesOf h) → AlreadyClosed (underOf h p) (recordsOf h) m p
+    already-closed-all m i p j =
         let k = max (flushedOf h) (endOf (recordsOf h)) in
-        subst (λ (l : List Logged). Shut (underOf h p) l m p) (ending-all k (recordsOf h) (omega arith))
-        (each-in (λ (p : Entry). Shut (underOf h p) (endingBy k (recordsOf h)) m p) (entriesOf h) p
-        (each-in (λ (m : Order). Each (λ (p : Entry). Shut (underOf h p) (endingBy k (recordsOf h)) m p) (entriesOf h)) (collect markersIn h) m (t .shut k (omega arith)) i) j)
+        subst (λ (l : List Logged). AlreadyClosed (underOf h p) l m p) (ending-all k (recordsOf h) (omega arith))
+        (each-in (λ (p : Entry). AlreadyClosed (underOf h p) (endingBy k (recordsOf h)) m p) (entriesOf h) p
+        (each-in (λ (m : Order). Each (λ (p : Entry). AlreadyClosed (underOf h p) (endingBy k (recordsOf h)) m p) (entriesOf h)) (collect markersIn h) m (t .already-closed k (omega arith)) i) j)
 
     none-yet : (m : Order) → In m (collect markersIn h) → m .position ≡ o .position → m .for ≡ o .for → ⊥
     none-yet m i x y =
@@ -546,10 +546,10 @@ module _ (c : Catalogue) (h : History) (t : Told c h) where
         a .some-open (in-each _ (entriesOf h) (λ p j u v z.
         let name = open-latest p j v z q r d in
         let is : latestIn (p .what .name) (recordsOf h) ≡ some q = subst (λ (n : List ℕ). latestIn n (recordsOf h) ≡ some q) name (marked-latest q r d) in
-        if-found-is (λ (r : Logged). r .number ≡ m .for → ⊥) is (shut-all m i p j (u ∙ sym x) (v ∙ sym (d .pid) ∙ k .pid) z) (s ∙ sym y))))
+        if-found-is (λ (r : Logged). r .number ≡ m .for → ⊥) is (already-closed-all m i p j (u ∙ sym x) (v ∙ sym (d .pid) ∙ k .pid) z) (s ∙ sym y))))
 
-    marked-told : Told c (markerWritten o ∷ h)
-    marked-told =
+    marker-keeps : HistoryInvariant c (markerWritten o ∷ h)
+    marker-keeps =
         record {
           come = rw records (t .come);
           ends = rw records (t .ends);
@@ -560,8 +560,8 @@ module _ (c : Catalogue) (h : History) (t : Told c h) where
               let s = each-in (λ (p : Entry). Standing (underOf h p) (endingBy k (recordsOf h)) p) (entriesOf h) p (t .standing k (rw flushed at b)) j in
               either (hits p) (λ e. subst (λ (u : ℕ). Standing u (endingBy k (recordsOf h)) p) (sym (after-hit p j e)) (closes k (rw flushed at b) p j e s))
               (λ e. subst (λ (u : ℕ). Standing u (endingBy k (recordsOf h)) p) (sym (after-miss p j e)) s)));
-          apart = rw (records, same-entries)
-              (in-each _ (recordsOf h) (λ q i prepares. in-each _ (entriesOf h) (λ p j w. was-apart q i prepares p j (within-before h (markerWritten o) q (let b = below q i in omega arith) p w))));
+          by-ordinal = rw (records, same-entries)
+              (in-each _ (recordsOf h) (λ q i prepares. in-each _ (entriesOf h) (λ p j w. ordinal-was q i prepares p j (in-transaction-before h (markerWritten o) q (let b = below q i in omega arith) p w))));
           for-prepare = rw more-orders (a .for-prepare, t .for-prepare);
           marks = rw (more-markers, records) (
             marked (λ q r s d.
@@ -570,18 +570,18 @@ module _ (c : Catalogue) (h : History) (t : Told c h) where
                 (λ (m : Order). (m .for < suc (length h)) × Each (λ (x : Logged). x .number ≡ m .for → Marks m x) (recordsOf h))
                 (λ m i. let b = i .0 in (omega arith, i .1)) (collect markersIn h) (t .marks),
           );
-          shut = λ k b. rw (records, more-markers, same-entries) (
+          already-closed = λ k b. rw (records, more-markers, same-entries) (
             in-each _ (entriesOf h) (λ p j x y z. absurd (first-hit (underOf h p) (o .verdict + 1) (omega arith) (sym (after-hit p j (hit-is p x y)) ∙ z))),
             in-each _ (collect markersIn h) (λ m i. in-each _ (entriesOf h) (λ p j x y z.
-                each-in (λ (p : Entry). Shut (underOf h p) (endingBy k (recordsOf h)) m p) (entriesOf h) p
-                (each-in (λ (m : Order). Each (λ (p : Entry). Shut (underOf h p) (endingBy k (recordsOf h)) m p) (entriesOf h)) (collect markersIn h) m (t .shut k (rw flushed at b)) i) j x y
+                each-in (λ (p : Entry). AlreadyClosed (underOf h p) (endingBy k (recordsOf h)) m p) (entriesOf h) p
+                (each-in (λ (m : Order). Each (λ (p : Entry). AlreadyClosed (underOf h p) (endingBy k (recordsOf h)) m p) (entriesOf h)) (collect markersIn h) m (t .already-closed k (rw flushed at b)) i) j x y
                 (first-open (underOf h p) _ (sym (under-next (markerWritten o) h p (entry-before h p j)) ∙ z)))),
           );
-          one = rw more-markers (first-one, in-each _ (collect markersIn h) (λ m i. other-one m i));
+          one-marker = rw more-markers (first-one, in-each _ (collect markersIn h) (λ m i. other-one m i));
         }
       where
         same-entries : entriesOf (markerWritten o ∷ h) ≡ entriesOf h
-        same-entries = before-quiet producedIn (markerWritten o) h refl
+        same-entries = collect-before-same producedIn (markerWritten o) h refl
 
         more-orders : collectWithBefore ordersIn (markerWritten o ∷ h) ≡ record { what = o; before = h } ∷ collectWithBefore ordersIn h
         more-orders = unfold collectWithBefore in refl
@@ -611,16 +611,16 @@ module _ (c : Catalogue) (h : History) (t : Told c h) where
             count-other (λ (x : Order). eqb (x .position) (m .position) && eqb (x .for) (m .for)) o (collect markersIn h)
             (either (eqb (o .position) (m .position) && eqb (o .for) (m .for))
             (λ e. absurd (none-yet m i (sym (eqb-true (o .position) (m .position) (and-left (eqb (o .position) (m .position)) (eqb (o .for) (m .for)) e))) (sym (eqb-true (o .for) (m .for) (and-right (eqb (o .position) (m .position)) (eqb (o .for) (m .for)) e))))) (λ e. e))
-            ∙ each-in (λ (m : Order). markersFor m h ≡ 1) (collect markersIn h) m (t .one) i
+            ∙ each-in (λ (m : Order). markersFor m h ≡ 1) (collect markersIn h) m (t .one-marker) i
 
   -- ---- any event
 
-  pub told-next : (e : Event) → MayBeNext c h e → Told c (e ∷ h)
-  told-next (recordAppended r end) a = appended-told r end a
-  told-next (logFlushed n) a = flushed-told n a
-  told-next (logCut n) a = cut-told n a
-  told-next (logOpened epoch) a = opened-told epoch a
-  told-next (orderGiven o) a = given-told o a
-  told-next (markerWritten o) a = marked-told o a
-  told-next (orderCarried o) a = carried-told o
-  told-next (entryWritten e) a = entered-told e a
+  pub next-keeps : (e : Event) → MayBeNext c h e → HistoryInvariant c (e ∷ h)
+  next-keeps (recordAppended r end) a = appended-keeps r end a
+  next-keeps (logFlushed n) a = flush-keeps n a
+  next-keeps (logCut n) a = cut-keeps n a
+  next-keeps (logOpened epoch) a = opened-keeps epoch a
+  next-keeps (orderGiven o) a = given-keeps o a
+  next-keeps (markerWritten o) a = marker-keeps o a
+  next-keeps (orderCarried o) a = carried-keeps o
+  next-keeps (entryWritten e) a = entry-keeps e a

@@ -26,7 +26,7 @@ pub data Stage (p : Entry) (records : List Logged) (r : Logged) : Type 0 where
   begun : r .content .status ≡ Begin → preparesIn (p .what .name) records ≡ ordinalOf p → Stage p records r
   prepared : isPrepare (r .content .status) ≡ true → preparesIn (p .what .name) records ≡ suc (ordinalOf p) → length (p .before) < r .number → Stage p records r
 
-pub record Busy (p : Entry) (records : List Logged) (r : Logged) : Type 0 where
+pub record OpenTransaction (p : Entry) (records : List Logged) (r : Logged) : Type 0 where
   pub pid : r .content .pid ≡ p .what .pid
   pub joined : member (r .content .joined) (p .what .position) ≡ true
   pub stage : Stage p records r
@@ -38,11 +38,11 @@ pub record Closes (kind : ℕ) (p : Entry) (r : Logged) : Type 0 where
 
 -- an entry that stands under a marker of this kind, 0 for none: it is open and its owner busy, or it stands under its prepare's verdict
 pub data Standing (kind : ℕ) (records : List Logged) (p : Entry) : Type 0 where
-  stillOpen : kind ≡ 0 → Found (Busy p records) (latestIn (p .what .name) records) → Standing kind records p
+  stillOpen : kind ≡ 0 → Found (OpenTransaction p records) (latestIn (p .what .name) records) → Standing kind records p
   closed : Found (Closes kind p) (nthPrepare (p .what .name) (ordinalOf p) records) → Standing kind records p
 
 -- an entry of a prepare's transaction: "what Produce wrote for its name since the flushed prepare before, up to it"
-pub record Within (h : History) (q : Logged) (p : Entry) : Type 0 where
+pub record InTransaction (h : History) (q : Logged) (p : Entry) : Type 0 where
   pub name : p .what .name ≡ q .content .name
   pub since : numberAfter (preparedBefore (q .content .name) (eventsBefore (q .number) h)) ≤ length (p .before)
   pub before : length (p .before) < q .number
@@ -55,13 +55,13 @@ pub record Marks (m : Order) (r : Logged) : Type 0 where
   pub pid : r .content .pid ≡ m .pid
 
 -- no open entry of a marker's partition and producer has that prepare as its name's latest record
-abbrev pub Shut : ℕ → List Logged → Order → Entry → Type 0
-Shut kind records m p =
+abbrev pub AlreadyClosed : ℕ → List Logged → Order → Entry → Type 0
+AlreadyClosed kind records m p =
     p .what .position ≡ m .position → p .what .pid ≡ m .pid → kind ≡ 0 → IfFound (λ (r : Logged). r .number ≡ m .for → ⊥) (latestIn (p .what .name) records)
 
 -- ---- the clauses
 
-pub record Told (c : Catalogue) (h : History) : Type 0 where
+pub record HistoryInvariant (c : Catalogue) (h : History) : Type 0 where
   -- the records
   pub come : allCome c emptyTable (contents (recordsOf h)) ≡ true
   pub ends : Ends c (recordsOf h)
@@ -69,10 +69,10 @@ pub record Told (c : Catalogue) (h : History) : Type 0 where
   -- the entries
   pub entitled : Each (λ (p : Entry). Found (Entitled (p .what) (p .before)) (latestOf (p .what .name) (p .before))) (entriesOf h)
   pub standing : AtEveryCut h (λ records. Each (λ (p : Entry). Standing (underOf h p) records p) (entriesOf h))
-  pub apart : Each (λ (q : Logged). isPrepare (q .content .status) ≡ true
-      → Each (λ (p : Entry). Within h q p → nthPrepare (p .what .name) (ordinalOf p) (recordsOf h) ≡ some q) (entriesOf h)) (recordsOf h)
+  pub by-ordinal : Each (λ (q : Logged). isPrepare (q .content .status) ≡ true
+      → Each (λ (p : Entry). InTransaction h q p → nthPrepare (p .what .name) (ordinalOf p) (recordsOf h) ≡ some q) (entriesOf h)) (recordsOf h)
   -- the orders and markers
   pub for-prepare : Each (λ (p : WithBefore Order). Found (IsFor (p .what) (p .before)) (recordNumbered (p .what .for) (p .before))) (collectWithBefore ordersIn h)
   pub marks : Each (λ (m : Order). (m .for < length h) × Each (λ (r : Logged). r .number ≡ m .for → Marks m r) (recordsOf h)) (collect markersIn h)
-  pub shut : AtEveryCut h (λ records. Each (λ (m : Order). Each (λ (p : Entry). Shut (underOf h p) records m p) (entriesOf h)) (collect markersIn h))
-  pub one : Each (λ (m : Order). markersFor m h ≡ 1) (collect markersIn h)
+  pub already-closed : AtEveryCut h (λ records. Each (λ (m : Order). Each (λ (p : Entry). AlreadyClosed (underOf h p) records m p) (entriesOf h)) (collect markersIn h))
+  pub one-marker : Each (λ (m : Order). markersFor m h ≡ 1) (collect markersIn h)

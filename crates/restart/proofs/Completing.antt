@@ -47,18 +47,18 @@ use Rattle.runs.specs.Demand3.{Completes, CarryingAccepted}
 use Rattle.runs.proofs.Run.{run-append}
 use Rattle.runs.proofs.Cases.{withOrder, while-up}
 use Rattle.runs.proofs.Admitted.{step-own}
-use Rattle.protocol.specs.HistoryInvariant.{Told}
+use Rattle.protocol.specs.HistoryInvariant.{HistoryInvariant}
 use Rattle.protocol.proofs.Lists.{In, found-with, find-in, either}
 use Rattle.protocol.proofs.Records.{come-record, After, latest, completed as isOver, after-prepare}
-use Rattle.protocol.proofs.Extends.{Firm, firm-grown, flushed-firm, told-grown}
+use Rattle.protocol.proofs.Extends.{FlushedIn, flushed-stays, each-flushed-prepare, extends-keeps}
 use Rattle.agreement.proofs.Invariant.{UnderWay, CarryingSide, Invariant}
 use Rattle.agreement.proofs.FlushedFirst.{proper}
-use Rattle.agreement.proofs.LiveTable.{live-ready, live-latest, live-stands, live-holds}
+use Rattle.agreement.proofs.LiveTable.{live-ready, live-latest, live-record-at, live-holds}
 use Rattle.agreement.proofs.Preserves.{log-of, acks-of}
 use Rattle.agreement.proofs.Orders.{prepare-held}
 use Rattle.agreement.proofs.Delivers.{place-below}
 use Rattle.agreement.proofs.Acknowledges.{ack-passes, row-joins, joined-small, position-below}
-use Rattle.agreement.proofs.Steps.{step-good, Reached, run-reached, always}
+use Rattle.agreement.proofs.Steps.{step-preserves, Reached, run-reached, always}
 use Rattle.restart.proofs.HoldsAt.{carrying-accepted}
 
 -- ---- sums
@@ -81,16 +81,16 @@ module _ (w : World) (i : Invariant w) (s : Coordinator) (u : w .phase ≡ up s)
   all = catalogueOf w .all
 
   rows-all : length (s .table .rows) ≡ places
-  rows-all = proper s (live-ready (catalogueOf w) (w .log) s (w .history) (log-of w i s u) (i .told)) .all
+  rows-all = proper s (live-ready (catalogueOf w) (w .log) s (w .history) (log-of w i s u) (i .of-history)) .all
 
   -- what is outstanding at a prepare's place is in the catalogue
   within : (k : ℕ) → isPrepare (rowAt (s .table) k .status) ≡ true → due (rowAt (s .table) k) all ≡ outstanding (rowAt (s .table) k)
   within k p =
       let c = catalogueOf w in
       let row = rowAt (s .table) k in
-      let st = live-stands c (w .log) s (w .history) (log-of w i s u) (i .told) k (prepare-held w i s u k p) in
+      let st = live-record-at c (w .log) s (w .history) (log-of w i s u) (i .of-history) k (prepare-held w i s u k p) in
       let q = st .latest in
-      let parts = well-formed-parts c (q .content) (come-record c (recordsOf (w .history)) (i .told .come) q (find-in _ (recordsOf (w .history)) q (st .is)) .0) in
+      let parts = well-formed-parts c (q .content) (come-record c (recordsOf (w .history)) (i .of-history .come) q (find-in _ (recordsOf (w .history)) q (st .is)) .0) in
       let joined : row .joined ≡ q .content .joined = ap (λ (y : Row). y .joined) (st .row) in
       let small : row .joined < 2 ^ 64 = omega (arith, parts .joined-below) in
       subset-same (outstanding row) all
@@ -191,9 +191,9 @@ carried-length : (o : Order) (h : History) → length (collect carriedIn (orderC
 unfolding collect
 carried-length o h = omega arith
 
-given-quiet : (o : Order) (h : History) → collect carriedIn (orderGiven o ∷ h) ≡ collect carriedIn h
+given-writes-nothing : (o : Order) (h : History) → collect carriedIn (orderGiven o ∷ h) ≡ collect carriedIn h
 unfolding collect
-given-quiet o h = refl
+given-writes-nothing o h = refl
 
 -- Ack
 record Acked (w v : World) (s : Coordinator) : Type 0 where
@@ -260,7 +260,7 @@ record Given (w v : World) (s : Coordinator) (o : Order) : Type 0 where
 
 given : (w : World) → Invariant w → (s : Coordinator) → w .phase ≡ up s → (ordersLeft s ≡ 0 → ⊥) → (o : Order) × Given w (step (callOrder (catalogueOf w .all)) w) s o
 given w i s u n =
-    (o, record { phase = ap (λ (v : World). v .phase) is ∙ u; carrying = ap (λ (v : World). v .carrying) is; carried = ap (λ (v : World). collect carriedIn (v .history)) is ∙ given-quiet o (w .history) })
+    (o, record { phase = ap (λ (v : World). v .phase) is ∙ u; carrying = ap (λ (v : World). v .carrying) is; carried = ap (λ (v : World). collect carriedIn (v .history)) is ∙ given-writes-nothing o (w .history) })
   where
     set : ℕ
     set = catalogueOf w .all
@@ -290,7 +290,7 @@ given w i s u n =
 -- ---- all of them
 
 step-invariant : (w : World) → Invariant w → (x : Item) → Invariant (step x w)
-step-invariant w i x = step-good w i x .holds (step-own x w (i .own))
+step-invariant w i x = step-preserves w i x .holds (step-own x w (i .own))
 
 carried-one : (w : World) → Invariant w → (s : Coordinator) → w .phase ≡ up s → (ordersLeft s ≡ 0 → ⊥) → Acked w (run (carryOne w) w) s
 unfolding run
@@ -336,29 +336,29 @@ latest-left v j s u p stands firm prepares e none-left =
     let l = log-of v j s u in
     let k = placeOf (s .table) (p .content .name) in
     let row = rowAt (s .table) k in
-    let row-is = live-latest c (v .log) s h l (j .told) (p .content .name) p e in
+    let row-is = live-latest c (v .log) s h l (j .of-history) (p .content .name) p e in
     let waits : isPrepare (row .status) ≡ true = ap (λ (y : Row). isPrepare (y .status)) row-is ∙ prepares in
     let end : row .end ≡ p .end = ap (λ (y : Row). y .end) row-is in
     let flushed : unflushed (s .flushed) row ≡ false = le-ltb (s .flushed) (row .end) (omega (arith, l .flushed)) in
     let joined : row .joined ≡ p .content .joined = ap (λ (y : Row). y .joined) row-is in
-    let small = well-formed-parts c (p .content) (come-record c (recordsOf h) (j .told .come) p stands .0) .joined-below in
+    let small = well-formed-parts c (p .content) (come-record c (recordsOf h) (j .of-history .come) p stands .0) .joined-below in
     let row-small : outstanding row < 2 ^ 64 = let b = and-le-l (row .joined) ((2 ^ 64 - 1) - row .acknowledged) in omega arith in
     let some : count (outstanding row) ≡ 0 → ⊥ = λ q. acks-of v j s u .waiting k waits (count-zero 64 (outstanding row) row-small q) in
     let left : rowLeft (s .flushed) row ≡ count (outstanding row) = rw (waits, flushed) refl in
-    let inside : k < places = ltb-true k places (live-holds c (v .log) s h l (j .told) (p .content .name) p e) in
+    let inside : k < places = ltb-true k places (live-holds c (v .log) s h l (j .of-history) (p .content .name) p e) in
     let most = sum-part (rowLeft (s .flushed)) freeRow (s .table .rows) k (omega (arith, rows-all v j s u)) in
     some (omega arith)
 
 all-completed : (w : World) → Invariant w → (v : World) → Reached w v → (s : Coordinator) → v .phase ≡ up s → ordersLeft s ≡ 0 → Each (λ (p : Logged). isCompleted (v .history) p ≡ true) (flushedPrepares (w .history))
 all-completed w i v r s u none-left =
-    flushed-firm (w .history) (λ (p : Logged). isCompleted (v .history) p ≡ true)
+    each-flushed-prepare (w .history) (λ (p : Logged). isCompleted (v .history) p ≡ true)
     (λ p f prepares.
     let c = catalogueOf w in
-    let t : Told c (v .history) = told-grown c (w .history) (i .told) (r .grown) in
-    let g = firm-grown c (w .history) (i .told) p f (r .grown) in
+    let t : HistoryInvariant c (v .history) = extends-keeps c (w .history) (i .of-history) (r .extends) in
+    let g = flushed-stays c (w .history) (i .of-history) p f (r .extends) in
     go p prepares g (after-prepare c (length (v .history)) (recordsOf (v .history)) (t .come) (t .ends) (t .numbered) p (g .stands) prepares))
   where
-    go : (p : Logged) → isPrepare (p .content .status) ≡ true → Firm (v .history) p → After p (recordsOf (v .history)) → isCompleted (v .history) p ≡ true
+    go : (p : Logged) → isPrepare (p .content .status) ≡ true → FlushedIn (v .history) p → After p (recordsOf (v .history)) → isCompleted (v .history) p ≡ true
     go p prepares g (latest n l) = absurd (latest-left v (r .invariant) s u p (g .stands) (g .flushed) prepares l none-left)
     go p prepares g (isOver k) =
         found-with (Completes p) (nextOf p (v .history)) k

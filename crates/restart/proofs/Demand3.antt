@@ -23,18 +23,18 @@ use Rattle.runs.specs.World.{Phase, up, down, World, catalogueOf, start, Item, 
 use Rattle.runs.specs.Demand3.{Keeps, Kept, Undisturbed, CompletesInTime, Promised, Demand3}
 use Rattle.runs.proofs.Admitted.{step-own}
 use Rattle.runs.proofs.Epochs.{Epochs, start-epochs, run-epochs}
-use Rattle.protocol.specs.HistoryInvariant.{Told}
+use Rattle.protocol.specs.HistoryInvariant.{HistoryInvariant}
 use Rattle.protocol.proofs.Lists.{In, found-is, in-each, each-filter, either}
 use Rattle.protocol.proofs.Records.{come-record, latest-last}
 use Rattle.protocol.proofs.NextEvent.{prepare-idle}
-use Rattle.protocol.proofs.Extends.{Firm, firm-grown, flushed-firm, kept-stands, kept-next, told-grown}
+use Rattle.protocol.proofs.Extends.{FlushedIn, flushed-stays, each-flushed-prepare, kept-stands, kept-next, extends-keeps}
 use Rattle.agreement.proofs.Invariant.{Invariant}
 use Rattle.agreement.proofs.LiveTable.{live-latest}
 use Rattle.agreement.proofs.Preserves.{log-of, acks-of}
-use Rattle.agreement.proofs.Steps.{step-good, Reached, run-reached, always}
+use Rattle.agreement.proofs.Steps.{step-preserves, Reached, run-reached, always}
 use Rattle.restart.proofs.HoldsAt.{holds-at, pending-latest}
-use Rattle.restart.proofs.OrdersNeeded.{count-part, leftOf, Tally, over, waits}
-use Rattle.restart.proofs.OrdersCounted.{step-counts}
+use Rattle.restart.proofs.TotalOrders.{count-part, leftOf, TotalOrders, over, waits}
+use Rattle.restart.proofs.TotalOrdersKept.{step-counts}
 
 -- ---- kept
 
@@ -42,23 +42,23 @@ kept : (w : World) → Invariant w → (items : List Item) → Each (Kept (run i
 kept w i items =
     let r = run-reached items w i in
     let c = catalogueOf w in
-    let t : Told c (run items w .history) = told-grown c (w .history) (i .told) (r .grown) in
-    flushed-firm (w .history) (Kept (run items w))
+    let t : HistoryInvariant c (run items w .history) = extends-keeps c (w .history) (i .of-history) (r .extends) in
+    each-flushed-prepare (w .history) (Kept (run items w))
     (λ p f prepares.
-    let g = firm-grown c (w .history) (i .told) p f (r .grown) in
+    let g = flushed-stays c (w .history) (i .of-history) p f (r .extends) in
     record { stands = found-is (Keeps p) (kept-stands c (run items w .history) t p (g .stands)) (record { verdict = refl; pid = refl; epoch = refl; partitions = refl; unchanged = refl }); next = kept-next c (run items w .history) t p (g .stands) prepares })
 
 -- ---- the count of carried orders
 
-run-counts : (all : ℕ) (p : Logged) → isPrepare (p .content .status) ≡ true → (n : ℕ) (items : List Item) (w : World) → all ≡ catalogueOf w .all → Invariant w → Firm (w .history) p → Tally p n (w .phase) (w .history)
-    → Each (Undisturbed all) items → Tally p n (run items w .phase) (run items w .history)
+run-counts : (all : ℕ) (p : Logged) → isPrepare (p .content .status) ≡ true → (n : ℕ) (items : List Item) (w : World) → all ≡ catalogueOf w .all → Invariant w → FlushedIn (w .history) p → TotalOrders p n (w .phase) (w .history)
+    → Each (Undisturbed all) items → TotalOrders p n (run items w .phase) (run items w .history)
 unfolding run
 run-counts all p prepares n [] w e i f t d = t
 run-counts all p prepares n (x ∷ items) w e i f t (d, ds) =
-    let g = step-good w i x in
+    let g = step-preserves w i x in
     let j = g .holds (step-own x w (i .own)) in
     run-counts all p prepares n items (step x w) (e ∙ ap (λ (y : List ℕ). parse y .catalogue .all) (sym (g .same-text))) j
-    (firm-grown (catalogueOf w) (w .history) (i .told) p f (g .grown)) (step-counts p prepares n w i (f .stands) t x (subst (λ (a : ℕ). Undisturbed a x) e d) j) ds
+    (flushed-stays (catalogueOf w) (w .history) (i .of-history) p f (g .extends)) (step-counts p prepares n w i (f .stands) t x (subst (λ (a : ℕ). Undisturbed a x) e d) j) ds
 
 module _ (w : World) (i : Invariant w) (p : Logged) (there : In p (recordsOf (w .history))) (pending : (isFlushedPrepare (w .history) p && not (isCompleted (w .history) p)) ≡ true) (items : List Item)
     (undisturbed : Each (Undisturbed (catalogueOf w .all)) items) where
@@ -71,22 +71,22 @@ module _ (w : World) (i : Invariant w) (p : Logged) (there : In p (recordsOf (w 
   prepares : isPrepare (p .content .status) ≡ true
   prepares = and-left (isPrepare (p .content .status)) (isFlushed h p) (and-left (isFlushedPrepare h p) (not (isCompleted h p)) pending)
 
-  firm : Firm h p
+  firm : FlushedIn h p
   firm = record { stands = there; flushed = leb-true (p .end) (flushedOf h) (and-right (isPrepare (p .content .status)) (isFlushed h p) (and-left (isFlushedPrepare h p) (not (isCompleted h p)) pending)) }
 
-  tally : Tally p (carriedFor p h + leftOf p (w .phase)) (run items w .phase) v
-  tally = run-counts (catalogueOf w .all) p prepares (carriedFor p h + leftOf p (w .phase)) items w refl i firm (waits (pending-latest w i p there pending) refl) undisturbed
+  total : TotalOrders p (carriedFor p h + leftOf p (w .phase)) (run items w .phase) v
+  total = run-counts (catalogueOf w .all) p prepares (carriedFor p h + leftOf p (w .phase)) items w refl i firm (waits (pending-latest w i p there pending) refl) undisturbed
 
   after : Reached w (run items w)
   after = run-reached items w i
 
   small : p .content .joined < 2 ^ 64
-  small = well-formed-parts (catalogueOf w) (p .content) (come-record (catalogueOf w) (recordsOf h) (i .told .come) p there .0) .joined-below
+  small = well-formed-parts (catalogueOf w) (p .content) (come-record (catalogueOf w) (recordsOf h) (i .of-history .come) p there .0) .joined-below
 
   joins-some : 0 < p .content .joined
   joins-some =
       let busy : idle (p .content .status) ≡ false = either (idle (p .content .status)) (λ e. absurd (prepare-idle (p .content .status) prepares e)) (λ e. e) in
-      some-joined (p .content .status) (p .content .joined) busy (well-formed-parts (catalogueOf w) (p .content) (come-record (catalogueOf w) (recordsOf h) (i .told .come) p there .0) .joined-status)
+      some-joined (p .content .status) (p .content .joined) busy (well-formed-parts (catalogueOf w) (p .content) (come-record (catalogueOf w) (recordsOf h) (i .of-history .come) p there .0) .joined-status)
 
   -- while it is not completed some partition is left
   some-left : latestOf (p .content .name) v ≡ some p → 1 ≤ leftOf p (run items w .phase)
@@ -97,7 +97,7 @@ module _ (w : World) (i : Invariant w) (p : Logged) (there : In p (recordsOf (w 
           let z = run items w in
           let j = after .invariant in
           let k = placeOf (s .table) (p .content .name) in
-          let row-is = live-latest (catalogueOf z) (z .log) s (z .history) (log-of z j s u) (j .told) (p .content .name) p e in
+          let row-is = live-latest (catalogueOf z) (z .log) s (z .history) (log-of z j s u) (j .of-history) (p .content .name) p e in
           let row-small : outstanding (rowAt (s .table) k) < 2 ^ 64 = let b = and-le-l (rowAt (s .table) k .joined) ((2 ^ 64 - 1) - rowAt (s .table) k .acknowledged) in omega (arith, ap (λ (r : Row). r .joined) row-is, small) in
           let n : count (outstanding (rowAt (s .table) k)) ≡ 0 → ⊥ = λ q. acks-of z j s u .waiting k (ap (λ (r : Row). isPrepare (r .status)) row-is ∙ prepares) (count-zero 64 (outstanding (rowAt (s .table) k)) row-small q) in
           omega arith
@@ -110,7 +110,7 @@ module _ (w : World) (i : Invariant w) (p : Logged) (there : In p (recordsOf (w 
       go : (y : Phase) → w .phase ≡ y → leftOf p y ≤ listed p
       go (up s) u =
           let k = placeOf (s .table) (p .content .name) in
-          let row-is = live-latest (catalogueOf w) (w .log) s h (log-of w i s u) (i .told) (p .content .name) p (pending-latest w i p there pending) in
+          let row-is = live-latest (catalogueOf w) (w .log) s h (log-of w i s u) (i .of-history) (p .content .name) p (pending-latest w i p there pending) in
           let joined : rowAt (s .table) k .joined ≡ p .content .joined = ap (λ (r : Row). r .joined) row-is in
           let b = count-part 64 (rowAt (s .table) k .joined) ((2 ^ 64 - 1) - rowAt (s .table) k .acknowledged) (omega (arith, small)) in
           omega (arith, ap count joined)
@@ -118,7 +118,7 @@ module _ (w : World) (i : Invariant w) (p : Logged) (there : In p (recordsOf (w 
 
   latest-open : latestOf (p .content .name) v ≡ some p → isCompleted v p ≡ true → ⊥
   latest-open e q =
-      let z : nextOf p v ≡ none = latest-last p (length v) (recordsOf v) (after .invariant .told .numbered) e in
+      let z : nextOf p v ≡ none = latest-last p (length v) (recordsOf v) (after .invariant .of-history .numbered) e in
       let f : found _ (nextOf p v) ≡ true = and-right (isPrepare (p .content .status)) _ q in
       true≢false (sym (rw z at f))
 
@@ -128,16 +128,16 @@ module _ (w : World) (i : Invariant w) (p : Logged) (there : In p (recordsOf (w 
     pub until-then : isCompleted v p ≡ false → carriedFor p v < carriedFor p h + leftOf p (w .phase)
 
   pub exactly : Exactly
-  exactly = go tally
+  exactly = go total
     where
-      go : Tally p (carriedFor p h + leftOf p (w .phase)) (run items w .phase) v → Exactly
+      go : TotalOrders p (carriedFor p h + leftOf p (w .phase)) (run items w .phase) v → Exactly
       go (over e f) = record { when-completed = λ q. f; until-then = λ q. not-both q e }
       go (waits e f) = record { when-completed = λ q. absurd (latest-open e q); until-then = λ q. let b = some-left e in omega arith }
 
   in-time : carriedFor p h + listed p ≤ carriedFor p v → isCompleted v p ≡ true
-  in-time b = go tally
+  in-time b = go total
     where
-      go : Tally p (carriedFor p h + leftOf p (w .phase)) (run items w .phase) v → isCompleted v p ≡ true
+      go : TotalOrders p (carriedFor p h + leftOf p (w .phase)) (run items w .phase) v → isCompleted v p ≡ true
       go (over e f) = e
       go (waits e f) = absurd (let a = some-left e in let m = left-most in omega arith)
 

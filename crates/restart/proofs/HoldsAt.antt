@@ -55,14 +55,14 @@ use Rattle.agreement.proofs.Acknowledges.{ack-passes}
 -- ---- the log
 
 log-agrees : (w : World) → Invariant w → LogAgrees w
-log-agrees w i = record { bytes = bytes (w .phase) (i .log-side); ends = i .told .ends; lengths = lengths (w .phase) (i .log-side) }
+log-agrees w i = record { bytes = bytes (w .phase) (i .log-side); ends = i .of-history .ends; lengths = lengths (w .phase) (i .log-side) }
   where
     bytes : (p : Phase) → LogSide (catalogueOf w) (w .log) p (w .history) → take (endOf (recordsOf (w .history))) (w .log) ≡ framesOf (catalogueOf w) (contents (recordsOf (w .history)))
-    bytes (up s) l = up-agrees (catalogueOf w) (w .log) s (w .history) l (i .told)
-    bytes (down n before) l = down-agrees (w .text) (w .log) (i .parsed) n (w .history) l (i .told)
+    bytes (up s) l = up-agrees (catalogueOf w) (w .log) s (w .history) l (i .of-history)
+    bytes (down n before) l = down-agrees (w .text) (w .log) (i .parsed) n (w .history) l (i .of-history)
 
     lengths : (p : Phase) → LogSide (catalogueOf w) (w .log) p (w .history) → SameLengths p (w .history)
-    lengths (up s) l = up-lengths (catalogueOf w) (w .log) s (w .history) l (i .told)
+    lengths (up s) l = up-lengths (catalogueOf w) (w .log) s (w .history) l (i .of-history)
     lengths (down n before) l = (l .within, sym (l .flushed))
 
 restarts : (w : World) → Invariant w → Restarts (w .phase) w
@@ -70,7 +70,7 @@ restarts w i = go (w .phase) (i .log-side)
   where
     go : (p : Phase) → LogSide (catalogueOf w) (w .log) p (w .history) → Restarts p w
     go (up s) l = tt
-    go (down n before) l = down-restarts (w .text) (w .log) (i .parsed) n (w .history) l (i .told)
+    go (down n before) l = down-restarts (w .text) (w .log) (i .parsed) n (w .history) l (i .of-history)
 
 -- ---- the words
 
@@ -84,7 +84,7 @@ words-agree w i =
     record {
       words = each-at (λ x (l : Leader). take (entryWords * l .partition .end) (l .words) ≡ wordsOf x (w .history)) (openLeader []) 0 (w .leaders)
           (λ x. let z : 0 + x ≡ x = omega arith in rw z (i .leaders x .words));
-      entitled = i .told .entitled;
+      entitled = i .of-history .entitled;
       offsets = i .offsets;
     }
 
@@ -110,14 +110,14 @@ markers-fit (orderCarried o ∷ h) i = markers-fit h i
 markers-fit (entryWritten e ∷ h) i = markers-fit h i
 
 under-its-verdict : (w : World) → Invariant w → UnderItsVerdict w
-under-its-verdict w i = under-verdict (catalogueOf w) (w .history) (i .told)
+under-its-verdict w i = under-verdict (catalogueOf w) (w .history) (i .of-history)
 
 -- Read finds the same in the words
 pub stands-under : (w : World) → Invariant w → (p : Entry) → In p (entriesOf (w .history))
     → let l = leaderAt w (p .what .position) in standsUnder (l .words) (l .partition .end) (p .what .offset) ≡ kindOf (markerOver (w .history) p)
 stands-under w i p j =
     let l = leaderAt w (p .what .position) in
-    under-words (w .history) (markers-fit (w .history) (i .told .for-prepare)) p j (each-in (λ (p : Entry). entryWords * p .what .offset ≡ length (wordsOf (p .what .position) (p .before))) (entriesOf (w .history)) p (i .offsets) j)
+    under-words (w .history) (markers-fit (w .history) (i .of-history .for-prepare)) p j (each-in (λ (p : Entry). entryWords * p .what .offset ≡ length (wordsOf (p .what .position) (p .before))) (entriesOf (w .history)) p (i .offsets) j)
     (l .words) (l .partition .end) (i .leaders (p .what .position) .words) (words-length w i (p .what .position))
     ∙ under-over (w .history) p
 
@@ -125,7 +125,7 @@ stands-under w i p j =
 
 -- a prepare that is flushed and not completed is its name's latest record
 pub pending-latest : (w : World) → Invariant w → (p : Logged) → In p (recordsOf (w .history)) → (isFlushedPrepare (w .history) p && not (isCompleted (w .history) p)) ≡ true → latestOf (p .content .name) (w .history) ≡ some p
-pending-latest w i p j e = go (after-prepare c (length h) (recordsOf h) (i .told .come) (i .told .ends) (i .told .numbered) p j prepares)
+pending-latest w i p j e = go (after-prepare c (length h) (recordsOf h) (i .of-history .come) (i .of-history .ends) (i .of-history .numbered) p j prepares)
   where
     c : Catalogue
     c = catalogueOf w
@@ -162,10 +162,10 @@ orders-given-up w i s u =
         let k = placeOf (s .table) (p .content .name) in
         let row = rowAt (s .table) k in
         let l = log-of w i s u in
-        let row-is = live-latest c (w .log) s h l (i .told) (p .content .name) p is in
+        let row-is = live-latest c (w .log) s h l (i .of-history) (p .content .name) p is in
         let prepares : isPrepare (row .status) ≡ true = ap (λ (y : Row). isPrepare (y .status)) row-is ∙ and-left (isPrepare (p .content .status)) (isFlushed h p) (and-left (isFlushedPrepare h p) (not (isCompleted h p)) e) in
         let flushed : unflushed (s .flushed) row ≡ false = le-ltb (s .flushed) (row .end) (let b = leb-true (p .end) (flushedOf h) (and-right (isPrepare (p .content .status)) (isFlushed h p) (and-left (isFlushedPrepare h p) (not (isCompleted h p)) e)) in let z : row .end ≡ p .end = ap (λ (y : Row). y .end) row-is in omega (arith, l .flushed)) in
-        let parts = well-formed-parts c (p .content) (come-record c (recordsOf h) (i .told .come) p j .0) in
+        let parts = well-formed-parts c (p .content) (come-record c (recordsOf h) (i .of-history .come) p j .0) in
         let joined : row .joined ≡ p .content .joined = ap (λ (y : Row). y .joined) row-is in
         let small : row .joined < 2 ^ 64 = omega (arith, parts .joined-below) in
         let within : subset (outstanding row) (c .all) ≡ true = subset-is (outstanding row) (c .all) (λ x m.
@@ -175,7 +175,7 @@ orders-given-up w i s u =
         let some : due row set ≡ 0 → ⊥ = λ z. acks-of w i s u .waiting k prepares (sym same ∙ z) in
         let test : ordered (s .flushed) set row ≡ true = ordered-is s set row (record { prepares = prepares; flushed = flushed; some = some }) in
         let low : k < orderPlace s set → ⊥ = λ b. not-both (order-lowest s set k b) test in
-        let inside : k < places = ltb-true k places (live-holds c (w .log) s h l (i .told) (p .content .name) p is) in
+        let inside : k < places = ltb-true k places (live-holds c (w .log) s h l (i .of-history) (p .content .name) p is) in
         rw (order-given s set (omega arith)) (le-leb (orderPlace s set) k (omega arith))
 
 orders-given : (w : World) → Invariant w → OrdersGiven (w .phase) w
@@ -213,9 +213,9 @@ holds-at w i epochs =
     record {
       log-agrees = log-agrees w i;
       words-agree = words-agree w i;
-      for-flushed-prepare = i .told .for-prepare;
+      for-flushed-prepare = i .of-history .for-prepare;
       of-last-opening = epochs;
-      one-marker = i .told .one;
+      one-marker = i .of-history .one-marker;
       under-its-verdict = under-its-verdict w i;
       orders-given = orders-given w i;
       carrying-accepted = carrying-accepted w i;

@@ -28,7 +28,7 @@ use Rattle.protocol.specs.Entries.{Entry, entriesOf, underOf}
 use Rattle.protocol.proofs.Lists.{In, here, each-in, in-each, each-filter, either}
 use Rattle.protocol.proofs.MarkerOver.{under-over, over-commit, over-some}
 use Rattle.agreement.proofs.Invariant.{placeIn, Owns, Invariant}
-use Rattle.agreement.proofs.Words.{words-next, words-quiet}
+use Rattle.agreement.proofs.Words.{words-next, words-same}
 use Rattle.agreement.proofs.Produces.{own-at, words-length}
 use Rattle.agreement.proofs.Steps.{always}
 use Rattle.restart.proofs.HoldsAt.{each-at, stands-under}
@@ -133,10 +133,10 @@ marker-words : (x : ℕ) (o : Order) (h : History) → o .position ≡ x → (a 
 marker-words x o h q = (toNat (o .pid), toNat (o .epoch) * 2 ^ 32 + toNat (o .coordinator), words-next x (markerWritten o) h ∙ rw (eq-eqb (o .position) x q) refl)
 
 no-entry-words : (x : ℕ) (e : Produced) (h : History) → eqb (e .position) x ≡ false → wordsOf x (entryWritten e ∷ h) ≡ wordsOf x h
-no-entry-words x e h q = words-quiet x (entryWritten e) h (rw q refl)
+no-entry-words x e h q = words-same x (entryWritten e) h (rw q refl)
 
 no-marker-words : (x : ℕ) (o : Order) (h : History) → eqb (o .position) x ≡ false → wordsOf x (markerWritten o ∷ h) ≡ wordsOf x h
-no-marker-words x o h q = words-quiet x (markerWritten o) h (rw q refl)
+no-marker-words x o h q = words-same x (markerWritten o) h (rw q refl)
 
 four-more : (l m : List ℕ) (a b d e : ℕ) → m ≡ l ++ (a ∷ b ∷ d ∷ e ∷ []) → length m ≡ length l + 4
 four-more l m a b d e q = ap length q ∙ length-append l (a ∷ b ∷ d ∷ e ∷ [])
@@ -144,11 +144,11 @@ four-more l m a b d e q = ap length q ∙ length-append l (a ∷ b ∷ d ∷ e �
 falling : (x : ℕ) (h : History) → Placed h → (n : ℕ) → entryWords * n ≡ length (wordsOf x h) → Falling x n (dataIn h)
 unfolding collect collectWithBefore
 falling x [] i n q = tt
-falling x (recordAppended r end ∷ h) i n q = falling x h i n (q ∙ ap length (words-quiet x (recordAppended r end) h refl))
-falling x (logFlushed m ∷ h) i n q = falling x h i n (q ∙ ap length (words-quiet x (logFlushed m) h refl))
-falling x (logCut m ∷ h) i n q = falling x h i n (q ∙ ap length (words-quiet x (logCut m) h refl))
-falling x (logOpened epoch ∷ h) i n q = falling x h i n (q ∙ ap length (words-quiet x (logOpened epoch) h refl))
-falling x (orderGiven o ∷ h) i n q = falling x h i n (q ∙ ap length (words-quiet x (orderGiven o) h refl))
+falling x (recordAppended r end ∷ h) i n q = falling x h i n (q ∙ ap length (words-same x (recordAppended r end) h refl))
+falling x (logFlushed m ∷ h) i n q = falling x h i n (q ∙ ap length (words-same x (logFlushed m) h refl))
+falling x (logCut m ∷ h) i n q = falling x h i n (q ∙ ap length (words-same x (logCut m) h refl))
+falling x (logOpened epoch ∷ h) i n q = falling x h i n (q ∙ ap length (words-same x (logOpened epoch) h refl))
+falling x (orderGiven o ∷ h) i n q = falling x h i n (q ∙ ap length (words-same x (orderGiven o) h refl))
 falling x (markerWritten o ∷ h) i n q =
     either (eqb (o .position) x)
     (λ t.
@@ -156,7 +156,7 @@ falling x (markerWritten o ∷ h) i n q =
     let z = four-more (wordsOf x h) (wordsOf x (markerWritten o ∷ h)) a (o .verdict + 1) b 0 w in
     falling-more x (n - 1) n (omega arith) (dataIn h) (falling x h i (n - 1) (omega arith)))
     (λ t. falling x h i n (q ∙ ap length (no-marker-words x o h t)))
-falling x (orderCarried o ∷ h) i n q = falling x h i n (q ∙ ap length (words-quiet x (orderCarried o) h refl))
+falling x (orderCarried o ∷ h) i n q = falling x h i n (q ∙ ap length (words-same x (orderCarried o) h refl))
 falling x (entryWritten e ∷ h) (i, is) n q =
     either (eqb (e .position) x)
     (λ t.
@@ -197,12 +197,12 @@ at-offset x o [] i n q b = absurd (let z : length (wordsOf x []) ≡ 0 = none x 
   where
     none : (x : ℕ) → length (wordsOf x []) ≡ 0
     none x = unfold wordsOf in refl
-at-offset x o (recordAppended r end ∷ h) i n q b = let w = words-quiet x (recordAppended r end) h refl in same-at x o h (recordAppended r end ∷ h) w refl (at-offset x o h i n (q ∙ ap length w) b)
-at-offset x o (logFlushed m ∷ h) i n q b = let w = words-quiet x (logFlushed m) h refl in same-at x o h (logFlushed m ∷ h) w refl (at-offset x o h i n (q ∙ ap length w) b)
-at-offset x o (logCut m ∷ h) i n q b = let w = words-quiet x (logCut m) h refl in same-at x o h (logCut m ∷ h) w refl (at-offset x o h i n (q ∙ ap length w) b)
-at-offset x o (logOpened epoch ∷ h) i n q b = let w = words-quiet x (logOpened epoch) h refl in same-at x o h (logOpened epoch ∷ h) w refl (at-offset x o h i n (q ∙ ap length w) b)
-at-offset x o (orderGiven y ∷ h) i n q b = let w = words-quiet x (orderGiven y) h refl in same-at x o h (orderGiven y ∷ h) w refl (at-offset x o h i n (q ∙ ap length w) b)
-at-offset x o (orderCarried y ∷ h) i n q b = let w = words-quiet x (orderCarried y) h refl in same-at x o h (orderCarried y ∷ h) w refl (at-offset x o h i n (q ∙ ap length w) b)
+at-offset x o (recordAppended r end ∷ h) i n q b = let w = words-same x (recordAppended r end) h refl in same-at x o h (recordAppended r end ∷ h) w refl (at-offset x o h i n (q ∙ ap length w) b)
+at-offset x o (logFlushed m ∷ h) i n q b = let w = words-same x (logFlushed m) h refl in same-at x o h (logFlushed m ∷ h) w refl (at-offset x o h i n (q ∙ ap length w) b)
+at-offset x o (logCut m ∷ h) i n q b = let w = words-same x (logCut m) h refl in same-at x o h (logCut m ∷ h) w refl (at-offset x o h i n (q ∙ ap length w) b)
+at-offset x o (logOpened epoch ∷ h) i n q b = let w = words-same x (logOpened epoch) h refl in same-at x o h (logOpened epoch ∷ h) w refl (at-offset x o h i n (q ∙ ap length w) b)
+at-offset x o (orderGiven y ∷ h) i n q b = let w = words-same x (orderGiven y) h refl in same-at x o h (orderGiven y ∷ h) w refl (at-offset x o h i n (q ∙ ap length w) b)
+at-offset x o (orderCarried y ∷ h) i n q b = let w = words-same x (orderCarried y) h refl in same-at x o h (orderCarried y ∷ h) w refl (at-offset x o h i n (q ∙ ap length w) b)
 at-offset x o (markerWritten m ∷ h) i n q b =
     either (eqb (m .position) x)
     (λ t.

@@ -48,12 +48,12 @@ use Rattle.runs.specs.World.{Phase, up, down, Carrying, nothing, toAcknowledge,
 use Rattle.runs.specs.Demand3.{Undisturbed}
 use Rattle.runs.proofs.Leaves.{flush-elsewhere}
 use Rattle.runs.proofs.Cases.{step-cases, while-up-cases, lent-cases, leader-cases, deliverable-cases, acknowledgeable-cases, read-cases, reopened-cases, answered-cases}
-use Rattle.protocol.specs.HistoryInvariant.{Told}
+use Rattle.protocol.specs.HistoryInvariant.{HistoryInvariant}
 use Rattle.protocol.proofs.Lists.{In, each-in, some-same, find-passes, either}
 use Rattle.protocol.proofs.Records.{numbered-same, numbered-below, complete-code, come-record}
-use Rattle.protocol.proofs.Entries.{collect-quiet}
+use Rattle.protocol.proofs.Entries.{collect-same}
 use Rattle.agreement.proofs.Invariant.{UpLog, LogSide, placeIn, UnderWay, CarryingSide, Invariant}
-use Rattle.agreement.proofs.FlushedFirst.{Settled, call-settled, proper}
+use Rattle.agreement.proofs.FlushedFirst.{FlushedFirst, call-flushed-first, proper}
 use Rattle.agreement.proofs.LiveTable.{live-ready, live-place, live-latest}
 use Rattle.agreement.proofs.Tables.{place-name}
 use Rattle.agreement.proofs.RowsAfterMarker.{for-latest}
@@ -61,9 +61,9 @@ use Rattle.agreement.proofs.Preserves.{log-of, acks-of}
 use Rattle.agreement.proofs.Delivers.{place-below}
 use Rattle.agreement.proofs.Acknowledges.{it, row-is, ack-passes, row-joins, joined-small, position-below}
 use Rattle.agreement.proofs.Restarts.{opening-valid, takesLog, call-refused, not-admitted}
-use Rattle.restart.proofs.OrdersNeeded.{difference-none, leftOf, Tally, over, waits, tally-same, tally-other, tally-over, completed-now, left-appended, place-acknowledged, carried-more}
+use Rattle.restart.proofs.TotalOrders.{difference-none, leftOf, TotalOrders, over, waits, total-same, total-other, total-over, completed-now, left-appended, place-acknowledged, carried-more}
 
-module _ (p : Logged) (prepares : isPrepare (p .content .status) ≡ true) (n : ℕ) (w : World) (i : Invariant w) (stands : In p (recordsOf (w .history))) (t : Tally p n (w .phase) (w .history)) where
+module _ (p : Logged) (prepares : isPrepare (p .content .status) ≡ true) (n : ℕ) (w : World) (i : Invariant w) (stands : In p (recordsOf (w .history))) (t : TotalOrders p n (w .phase) (w .history)) where
   abbrev c : Catalogue
   c = catalogueOf w
 
@@ -72,17 +72,17 @@ module _ (p : Logged) (prepares : isPrepare (p .content .status) ≡ true) (n : 
 
   -- what is to be shown of the next world
   abbrev Counts : World → Type 0
-  Counts v = Invariant v → Tally p n (v .phase) (v .history)
+  Counts v = Invariant v → TotalOrders p n (v .phase) (v .history)
 
   module _ (s : Coordinator) (u : w .phase ≡ up s) where
-    now : Tally p n (up s) h
-    now = subst (λ (y : Phase). Tally p n y h) u t
+    now : TotalOrders p n (up s) h
+    now = subst (λ (y : Phase). TotalOrders p n y h) u t
 
     -- ---- Init, Add, End, Tick and Flush
 
-    acted : (a : Action) → Lawful s a → Settled s a → UpLog c (logAfter a s (w .log)) (after a s) (historyAfter a s h) → Told c (historyAfter a s h) → Tally p n (up (after a s)) (historyAfter a s h)
+    acted : (a : Action) → Lawful s a → FlushedFirst s a → UpLog c (logAfter a s (w .log)) (after a s) (historyAfter a s h) → HistoryInvariant c (historyAfter a s h) → TotalOrders p n (up (after a s)) (historyAfter a s h)
     acted keep l k x y = now
-    acted (advance clock) l k x y = tally-same p n (up s) (up (after (advance clock) s)) h h refl refl refl now
+    acted (advance clock) l k x y = total-same p n (up s) (up (after (advance clock) s)) h h refl refl refl now
     acted (append place row) l k x y = go now
       where
         end : ℕ
@@ -95,26 +95,26 @@ module _ (p : Logged) (prepares : isPrepare (p .content .status) ≡ true) (n : 
         records = unfold recordsOf in refl
 
         carried : collect carriedIn (recordAppended (recordOf row) end ∷ h) ≡ collect carriedIn h
-        carried = collect-quiet carriedIn (recordAppended (recordOf row) end) h refl
+        carried = collect-same carriedIn (recordAppended (recordOf row) end) h refl
 
         inside : place < length (s .table .rows)
         inside =
             let at : placeFor (unacknowledged (s .table)) (row .name) ≡ place = plain-place-for (s .table) (row .name) ∙ l .place-is in
-            omega (arith, come-place (unacknowledged (s .table)) (recordOf row) (l .comes), proper s (live-ready c (w .log) s h (log-of w i s u) (i .told)) .all)
+            omega (arith, come-place (unacknowledged (s .table)) (recordOf row) (l .comes), proper s (live-ready c (w .log) s h (log-of w i s u) (i .of-history)) .all)
 
-        go : Tally p n (up s) h → Tally p n (up (appended s place row)) (recordAppended (recordOf row) end ∷ h)
-        go (over e f) = tally-over p new n (up (appended s place row)) h (recordAppended (recordOf row) end ∷ h) records carried e f
+        go : TotalOrders p n (up s) h → TotalOrders p n (up (appended s place row)) (recordAppended (recordOf row) end ∷ h)
+        go (over e f) = total-over p new n (up (appended s place row)) h (recordAppended (recordOf row) end ∷ h) records carried e f
         go (waits e f) =
             let d : row .name ≡ p .content .name → ⊥ = λ z.
-            let is : isPrepare (rowAt (s .table) (placeOf (s .table) (row .name)) .status) ≡ true = ap (λ (m : List ℕ). isPrepare (rowAt (s .table) (placeOf (s .table) m) .status)) z ∙ ap (λ (r : Row). isPrepare (r .status)) (live-latest c (w .log) s h (log-of w i s u) (i .told) (p .content .name) p e) ∙ prepares in
+            let is : isPrepare (rowAt (s .table) (placeOf (s .table) (row .name)) .status) ≡ true = ap (λ (m : List ℕ). isPrepare (rowAt (s .table) (placeOf (s .table) m) .status)) z ∙ ap (λ (r : Row). isPrepare (r .status)) (live-latest c (w .log) s h (log-of w i s u) (i .of-history) (p .content .name) p e) ∙ prepares in
             not-both (k .unprepared) is in
-            tally-other p new n (up s) (up (appended s place row)) h (recordAppended (recordOf row) end ∷ h) records d carried
-            (left-appended c (w .log) _ s h place row (log-of w i s u) (i .told) (recordAppended (recordOf row) end ∷ h) x y new records inside p e d d) (waits e f)
+            total-other p new n (up s) (up (appended s place row)) h (recordAppended (recordOf row) end ∷ h) records d carried
+            (left-appended c (w .log) _ s h place row (log-of w i s u) (i .of-history) (recordAppended (recordOf row) end ∷ h) x y new records inside p e d d) (waits e f)
     acted (acknowledgeAt place position) l k x y = absurd k
-    acted (flushTo m) l k x y = tally-same p n (up s) (up (after (flushTo m) s)) h (logFlushed m ∷ h) (unfold recordsOf in refl) (collect-quiet carriedIn (logFlushed m) h refl) refl now
+    acted (flushTo m) l k x y = total-same p n (up s) (up (after (flushTo m) s)) h (logFlushed m ∷ h) (unfold recordsOf in refl) (collect-same carriedIn (logFlushed m) h refl) refl now
 
-    acts : (a : Action) → Decided s (length (w .log)) a → Settled s a → Counts (coordinatorDoes a s w)
-    acts a d k j = acted a (decided-lawful s (live-ready c (w .log) s h (log-of w i s u) (i .told)) (length (w .log)) a d) k (j .log-side) (j .told)
+    acts : (a : Action) → Decided s (length (w .log)) a → FlushedFirst s a → Counts (coordinatorDoes a s w)
+    acts a d k j = acted a (decided-lawful s (live-ready c (w .log) s h (log-of w i s u) (i .of-history)) (length (w .log)) a d) k (j .log-side) (j .of-history)
 
     -- ---- Ack
 
@@ -132,14 +132,14 @@ module _ (p : Logged) (prepares : isPrepare (p .content .status) ≡ true) (n : 
       number-is = eqb-true (r .number) (o .for) (find-passes (λ (y : Logged). eqb (y .number) (o .for)) (recordsOf h) r (it w i s u o way .found))
 
       same-prepare : o .for ≡ p .number → r ≡ p
-      same-prepare e = numbered-same (length h) (recordsOf h) (i .told .numbered) r p (it w i s u o way .there) stands (number-is ∙ e)
+      same-prepare e = numbered-same (length h) (recordsOf h) (i .of-history .numbered) r p (it w i s u o way .there) stands (number-is ∙ e)
 
       records : recordsOf v ≡ recordsOf h
       records = unfold recordsOf in refl
 
       -- where the prepare's row is
       place-is : (name : List ℕ) → placeOf (s .table) name ≡ placeIn c (recordsOf h) name
-      place-is name = live-place c (w .log) s h (log-of w i s u) (i .told) name
+      place-is name = live-place c (w .log) s h (log-of w i s u) (i .of-history) name
 
       carried-here : o .for ≡ p .number → carriedFor p v ≡ 1 + carriedFor p h
       carried-here e = carried-more p o h ∙ rw (eq-eqb (o .for) (p .number) e) refl
@@ -154,13 +154,13 @@ module _ (p : Logged) (prepares : isPrepare (p .content .status) ≡ true) (n : 
           true≢false (sym (rw z at f))
 
       -- the tally with the order counted
-      counted : (o .for ≡ p .number → ⊥) → Tally p n (up s) h → Tally p n (up s) v
+      counted : (o .for ≡ p .number → ⊥) → TotalOrders p n (up s) h → TotalOrders p n (up s) v
       counted d (over e f) = over (rw records e) (same-count d ∙ f)
       counted d (waits e f) = waits (rw records e) (ap (λ (m : ℕ). m + leftOf p (up s)) (same-count d) ∙ f)
 
       other-name : (o .for ≡ p .number → ⊥) → latestOf (p .content .name) h ≡ some p → r .content .name ≡ p .content .name → ⊥
       other-name d e q =
-          let z : latestOf (r .content .name) h ≡ some r = for-latest c h (i .told) o r (it w i s u o way .there) (it w i s u o way .is-for) in
+          let z : latestOf (r .content .name) h ≡ some r = for-latest c h (i .of-history) o r (it w i s u o way .there) (it w i s u o way .is-for) in
           d (sym number-is ∙ ap (λ (y : Logged). y .number) (some-same (sym z ∙ ap (λ (m : List ℕ). latestOf m h) q ∙ e)))
 
       row-name : row .name ≡ r .content .name
@@ -170,7 +170,7 @@ module _ (p : Logged) (prepares : isPrepare (p .content .status) ≡ true) (n : 
       own-left e = ap (λ (k : ℕ). count (outstanding (rowAt (s .table) k))) (place-is (p .content .name) ∙ ap (λ (y : Logged). placeIn c (recordsOf h) (y .content .name)) (sym (same-prepare e)) ∙ it w i s u o way .place)
 
       inside : o .place < length (s .table .rows)
-      inside = let b = place-below w i s u o way in omega (arith, proper s (live-ready c (w .log) s h (log-of w i s u) (i .told)) .all)
+      inside = let b = place-below w i s u o way in omega (arith, proper s (live-ready c (w .log) s h (log-of w i s u) (i .of-history)) .all)
 
       -- the last one completes its prepare
       completes : lastOutstanding row ≡ true → Counts (coordinatorDoes (append (o .place) (completed row (s .clock))) s (withEvent w (orderCarried o)))
@@ -189,28 +189,28 @@ module _ (p : Logged) (prepares : isPrepare (p .content .status) ≡ true) (n : 
           all = (unfold recordsOf in refl)
 
           carried : collect carriedIn (recordAppended (recordOf done) end ∷ v) ≡ collect carriedIn v
-          carried = collect-quiet carriedIn (recordAppended (recordOf done) end) v refl
+          carried = collect-same carriedIn (recordAppended (recordOf done) end) v refl
 
           to-v : recordsOf (recordAppended (recordOf done) end ∷ v) ≡ new ∷ recordsOf v
           to-v = all ∙ ap (λ (l : List Logged). new ∷ l) (sym records)
 
-          go : Tally p n (up s) h → Dec (o .for ≡ p .number) → Tally p n (up (appended s (o .place) done)) (recordAppended (recordOf done) end ∷ v)
-          go (over e f) q = let d = not-over e in tally-over p new n (up (appended s (o .place) done)) v (recordAppended (recordOf done) end ∷ v) to-v carried (rw records e) (same-count d ∙ f)
+          go : TotalOrders p n (up s) h → Dec (o .for ≡ p .number) → TotalOrders p n (up (appended s (o .place) done)) (recordAppended (recordOf done) end ∷ v)
+          go (over e f) q = let d = not-over e in total-over p new n (up (appended s (o .place) done)) v (recordAppended (recordOf done) end ∷ v) to-v carried (rw records e) (same-count d ∙ f)
           go (waits e f) (yes q) =
-              over (completed-now c p new h (recordAppended (recordOf done) end ∷ v) all (i .told) e prepares (let b = below in omega arith) (row-name ∙ ap (λ (y : Logged). y .content .name) (same-prepare q))
+              over (completed-now c p new h (recordAppended (recordOf done) end ∷ v) all (i .of-history) e prepares (let b = below in omega arith) (row-name ∙ ap (λ (y : Logged). y .content .name) (same-prepare q))
               (complete-code (row .status) row-prepares ∙ ap (λ (m : ℕ). m + 2) (ap (λ (y : Row). statusCode (y .status)) (row-is w i s u o way) ∙ ap (λ (y : Logged). statusCode (y .content .status)) (same-prepare q))))
               (let a : carriedFor p (recordAppended (recordOf done) end ∷ v) ≡ carriedFor p v = rw carried refl in let b = carried-here q in let d = own-left q in let m = eqb-true (count (outstanding row)) 1 last in omega arith)
             where
               below : p .number < length h
-              below = each-in (λ (y : Logged). y .number < length h) (recordsOf h) p (numbered-below (length h) (recordsOf h) (i .told .numbered)) stands
+              below = each-in (λ (y : Logged). y .number < length h) (recordsOf h) p (numbered-below (length h) (recordsOf h) (i .of-history .numbered)) stands
 
               row-prepares : isPrepare (row .status) ≡ true
               row-prepares = ap (λ (y : Row). isPrepare (y .status)) (row-is w i s u o way) ∙ it w i s u o way .is-for .prepare
           go (waits e f) (no d) =
               let d′ = other-name d e in
               let d″ : row .name ≡ p .content .name → ⊥ = λ z. d′ (sym row-name ∙ z) in
-              tally-other p new n (up s) (up (appended s (o .place) done)) v (recordAppended (recordOf done) end ∷ v) to-v d″ carried
-              (left-appended c (w .log) _ s h (o .place) done (log-of w i s u) (i .told) (recordAppended (recordOf done) end ∷ v) (j .log-side) (j .told) new all inside p e d″ d″) (counted d (waits e f))
+              total-other p new n (up s) (up (appended s (o .place) done)) v (recordAppended (recordOf done) end ∷ v) to-v d″ carried
+              (left-appended c (w .log) _ s h (o .place) done (log-of w i s u) (i .of-history) (recordAppended (recordOf done) end ∷ v) (j .log-side) (j .of-history) new all inside p e d″ d″) (counted d (waits e f))
 
       -- another one is noted
       notes : lastOutstanding row ≡ false → Counts (coordinatorDoes (acknowledgeAt (o .place) (o .position)) s (withEvent w (orderCarried o)))
@@ -219,7 +219,7 @@ module _ (p : Logged) (prepares : isPrepare (p .content .status) ≡ true) (n : 
           noted : Coordinator
           noted = acknowledged s (o .place) (o .position)
 
-          go : Tally p n (up s) h → Dec (o .for ≡ p .number) → Tally p n (up noted) v
+          go : TotalOrders p n (up s) h → Dec (o .for ≡ p .number) → TotalOrders p n (up noted) v
           go (over e f) q = over (rw records e) (same-count (not-over e) ∙ f)
           go (waits e f) (yes q) =
               let at : placeOf (noted .table) (p .content .name) ≡ o .place = place-acknowledged s (o .place) (o .position) (p .content .name) ∙ place-is (p .content .name) ∙ ap (λ (y : Logged). placeIn c (recordsOf h) (y .content .name)) (sym (same-prepare q)) ∙ it w i s u o way .place in
@@ -228,7 +228,7 @@ module _ (p : Logged) (prepares : isPrepare (p .content .status) ≡ true) (n : 
               waits (rw records e) (let a = carried-here q in let b = own-left q in omega arith)
           go (waits e f) (no d) =
               let other : placeOf (s .table) (p .content .name) ≡ o .place → ⊥ = λ z. other-name d e
-              (sym (place-name c (recordsOf h) (i .told .come) (i .told .ends) (p .content .name) (r .content .name) p r e (for-latest c h (i .told) o r (it w i s u o way .there) (it w i s u o way .is-for)) (sym (place-is (p .content .name)) ∙ z ∙ sym (it w i s u o way .place)))) in
+              (sym (place-name c (recordsOf h) (i .of-history .come) (i .of-history .ends) (p .content .name) (r .content .name) p r e (for-latest c h (i .of-history) o r (it w i s u o way .there) (it w i s u o way .is-for)) (sym (place-is (p .content .name)) ∙ z ∙ sym (it w i s u o way .place)))) in
               let left : leftOf p (up noted) ≡ leftOf p (up s) = ap (λ (k : ℕ). count (outstanding (rowAt (noted .table) k))) (place-acknowledged s (o .place) (o .position) (p .content .name)) ∙ ap (λ (y : Row). count (outstanding y)) (row-there (placeOf (s .table) (p .content .name)) other) in
               waits (rw records e) (ap (λ (m : ℕ). carriedFor p v + m) left ∙ ap (λ (m : ℕ). m + leftOf p (up s)) (same-count d) ∙ f)
             where
@@ -244,7 +244,7 @@ module _ (p : Logged) (prepares : isPrepare (p .content .status) ≡ true) (n : 
   -- ---- what changes neither records nor state
 
   resting : (v : World) → v .phase ≡ w .phase → recordsOf (v .history) ≡ recordsOf h → collect carriedIn (v .history) ≡ collect carriedIn h → Counts v
-  resting v e r k j = tally-same p n (w .phase) (v .phase) h (v .history) r k (ap (leftOf p) e) t
+  resting v e r k j = total-same p n (w .phase) (v .phase) h (v .history) r k (ap (leftOf p) e) t
 
   same-world : Counts w
   same-world j = t
@@ -269,7 +269,7 @@ module _ (p : Logged) (prepares : isPrepare (p .content .status) ≡ true) (n : 
   written-carried : (a : PartitionAction) (e : Event) → carriedIn e ≡ [] → collect carriedIn (historyWritten a e h) ≡ collect carriedIn h
   written-carried keepPartition e r = refl
   written-carried (note coordinator place q) e r = refl
-  written-carried (write coordinator place q words) e r = collect-quiet carriedIn e h r
+  written-carried (write coordinator place q words) e r = collect-same carriedIn e h r
 
   led : (x : ℕ) (a : PartitionAction) (e : Event) (k : Carrying) → recordsOf (e ∷ h) ≡ recordsOf h → carriedIn e ≡ [] → Counts (leaderDoes x a e k w)
   led x a e k r q = resting (leaderDoes x a e k w) refl (written-records a e r) (written-carried a e q)
@@ -278,7 +278,7 @@ module _ (p : Logged) (prepares : isPrepare (p .content .status) ≡ true) (n : 
 
   reopened : (m before : ℕ) → w .phase ≡ down m before → (epoch first last : ℤ) → openingReply (w .text) (w .log) m epoch first last .number ≡ 0
       → (v : World) → v .phase ≡ up (opening (w .text) (w .log) m epoch first last .state) → v .history ≡ logOpened epoch ∷ h → v .text ≡ w .text → Counts v
-  reopened m before u epoch first last accepted v e f g j = go (subst (λ (y : Phase). Tally p n y h) u t)
+  reopened m before u epoch first last accepted v e f g j = go (subst (λ (y : Phase). TotalOrders p n y h) u t)
     where
       s : Coordinator
       s = opening (w .text) (w .log) m epoch first last .state
@@ -287,15 +287,15 @@ module _ (p : Logged) (prepares : isPrepare (p .content .status) ≡ true) (n : 
       records = ap recordsOf f ∙ (unfold recordsOf in refl)
 
       carried : collect carriedIn (v .history) ≡ collect carriedIn h
-      carried = ap (collect carriedIn) f ∙ collect-quiet carriedIn (logOpened epoch) h refl
+      carried = ap (collect carriedIn) f ∙ collect-same carriedIn (logOpened epoch) h refl
 
       log-up : UpLog c (v .log) s (v .history)
       log-up = subst (λ (y : List ℕ). UpLog (parse y .catalogue) (v .log) s (v .history)) g (subst (λ (y : Phase). LogSide (catalogueOf v) (v .log) y (v .history)) e (j .log-side))
 
-      told-up : Told c (v .history)
-      told-up = subst (λ (y : List ℕ). Told (parse y .catalogue) (v .history)) g (j .told)
+      told-up : HistoryInvariant c (v .history)
+      told-up = subst (λ (y : List ℕ). HistoryInvariant (parse y .catalogue) (v .history)) g (j .of-history)
 
-      go : Tally p n (down m before) h → Tally p n (v .phase) (v .history)
+      go : TotalOrders p n (down m before) h → TotalOrders p n (v .phase) (v .history)
       go (over a b) = over (rw records a) (rw carried b)
       go (waits a b) =
           let a′ : latestOf (p .content .name) (v .history) ≡ some p = rw records a in
@@ -303,7 +303,7 @@ module _ (p : Logged) (prepares : isPrepare (p .content .status) ≡ true) (n : 
           let row-is = live-latest c (v .log) s (v .history) log-up told-up (p .content .name) p a′ in
           let none-acked = opening-valid (w .text) (w .log) m epoch first last accepted .0 .none-acknowledged k in
           let joined : rowAt (s .table) k .joined ≡ p .content .joined = ap (λ (y : Row). y .joined) row-is in
-          let small : p .content .joined < 2 ^ 64 = well-formed-parts c (p .content) (come-record c (recordsOf h) (i .told .come) p stands .0) .joined-below in
+          let small : p .content .joined < 2 ^ 64 = well-formed-parts c (p .content) (come-record c (recordsOf h) (i .of-history .come) p stands .0) .joined-below in
           let left : leftOf p (v .phase) ≡ listed p = ap (leftOf p) e ∙ ap count (ap (λ (z : ℕ). difference (rowAt (s .table) k .joined) z) none-acked ∙ ap (λ (z : ℕ). difference z 0) joined ∙ difference-none (p .content .joined) small) in
           waits a′ (ap (λ (z : ℕ). z + leftOf p (v .phase)) (rw carried refl) ∙ ap (λ (z : ℕ). carriedFor p h + z) left ∙ b)
 
@@ -315,7 +315,7 @@ module _ (p : Logged) (prepares : isPrepare (p .content .status) ≡ true) (n : 
   next-counts : (x : Item) → inLists x ≡ true → Undisturbed (c .all) x → Counts (next x w)
   next-counts (call lent k) so d =
       while-up-cases Counts w same-world _ (λ s u. lent-cases Counts w same-world lent (actionOf k s) s
-      (λ o. acts s u (actionOf k s (length (w .log))) (byCall k (and-left (callTyped k) (not (isAck k)) so) refl) (call-settled s (live-ready c (w .log) s h (log-of w i s u) (i .told)) (length (w .log)) k (not-true (isAck k) (and-right (callTyped k) (not (isAck k)) so))))
+      (λ o. acts s u (actionOf k s (length (w .log))) (byCall k (and-left (callTyped k) (not (isAck k)) so) refl) (call-flushed-first s (live-ready c (w .log) s h (log-of w i s u) (i .of-history)) (length (w .log)) k (not-true (isAck k) (and-right (callTyped k) (not (isAck k)) so))))
       (λ m e. elsewhere s u m e k))
     where
       refused : (s : Coordinator) (u : w .phase ≡ up s) (m : ℕ) → (m ≡ length (w .log) → ⊥) → (k : CoordinatorCall) → takesLog k ≡ true → Counts (coordinatorElsewhere (actionOf k s m) s w)
@@ -327,12 +327,12 @@ module _ (p : Logged) (prepares : isPrepare (p .content .status) ≡ true) (n : 
       elsewhere s u m e (endCall name pid epoch verdict time) = refused s u m e (endCall name pid epoch verdict time) refl
       elsewhere s u m e (tickCall time) = refused s u m e (tickCall time) refl
       elsewhere s u m e (flushCall length) =
-          subst Counts (sym (flush-elsewhere length s w)) (acts s u (flush s length .action) (byCall (flushCall length) refl refl) (call-settled s (live-ready c (w .log) s h (log-of w i s u) (i .told)) 0 (flushCall length) refl))
+          subst Counts (sym (flush-elsewhere length s w)) (acts s u (flush s length .action) (byCall (flushCall length) refl refl) (call-flushed-first s (live-ready c (w .log) s h (log-of w i s u) (i .of-history)) 0 (flushCall length) refl))
       elsewhere s u m e (ackCall place pid epoch position) = refused s u m e (ackCall place pid epoch position) refl
   next-counts (callOrder set) so d =
       while-up-cases Counts w same-world _
       (λ s u. answered-cases Counts w s (order s set) (resting _ refl refl refl)
-      (λ place pid epoch verdict position coordinator e. resting _ refl (records-given _) (collect-quiet carriedIn (orderGiven _) h refl)))
+      (λ place pid epoch verdict position coordinator e. resting _ refl (records-given _) (collect-same carriedIn (orderGiven _) h refl)))
   next-counts (callProduce lent other name pid epoch position sequence payload) so d =
       while-up-cases Counts w same-world _
       (λ s u. leader-cases Counts w same-world lent _ _ _ _
@@ -353,5 +353,5 @@ module _ (p : Logged) (prepares : isPrepare (p .content .status) ≡ true) (n : 
       reopened-cases Counts w same-world epoch first last
       (λ m before u e. reopened m before u epoch first last (eqb-true _ 0 (and-left (eqb (openingReply (w .text) (w .log) m epoch first last .number) 0) (leZ (pos before) epoch) e)) _ refl refl refl)
 
-  pub step-counts : (x : Item) → Undisturbed (c .all) x → Invariant (step x w) → Tally p n (step x w .phase) (step x w .history)
+  pub step-counts : (x : Item) → Undisturbed (c .all) x → Invariant (step x w) → TotalOrders p n (step x w .phase) (step x w .history)
   step-counts x d = step-cases Counts x w same-world (λ e. next-counts x e d)

@@ -3,7 +3,7 @@ use Prim.Native.Nat.{ℕ, zero, suc, _+_, _-_, _/_, _%_, _≤_, _<_, _^_, min}
 use mathlib.Core.Path.{_≡_, refl, sym, ap, subst, _∙_}
 use mathlib.Core.Logic.{_≢_}
 use mathlib.Core.Bool.{true, cond, true≢false}
-use mathlib.Core.List.{List, [], _∷_}
+use mathlib.Core.List.{List, _∷_}
 use mathlib.Core.Option.{Option, none, some}
 use native.Mathlib.Omega.{arith}
 use lib.Bits.{bitAnd, and-step, and-mask}
@@ -25,13 +25,12 @@ use Rattle.table.proofs.Laws.{apply-same, apply-other}
 use Rattle.table.proofs.Unacknowledged.{plain-place, plain-with}
 use Rattle.coordinator.specs.Coordinator.{logEnd, rowFrame, appended, acknowledged}
 use Rattle.coordinator.specs.declared.Coordinator.{Coordinator}
-use Rattle.runs.specs.History.{Order, Event, orderCarried, History, carriedIn, collect, Logged, recordsOf, contents, isOf, latestOf, nextOf, listed, isCompleted, carriedFor}
+use Rattle.runs.specs.History.{Order, orderCarried, History, carriedIn, collect, Logged, recordsOf, contents, isOf, latestOf, nextOf, listed, isCompleted, carriedFor}
 use Rattle.runs.specs.World.{Phase, up, down}
 use Rattle.protocol.specs.RecordsOfName.{latestIn}
-use Rattle.protocol.specs.HistoryInvariant.{Told}
+use Rattle.protocol.specs.HistoryInvariant.{HistoryInvariant}
 use Rattle.protocol.proofs.Lists.{find-miss, last-there, last-here}
 use Rattle.protocol.proofs.Records.{isAfter, latest-last, is-of}
-use Rattle.protocol.proofs.Entries.{collect-quiet}
 use Rattle.agreement.proofs.Invariant.{UpLog, placeIn}
 use Rattle.agreement.proofs.LiveTable.{live-place, live-latest}
 use Rattle.agreement.proofs.Tables.{place-kept}
@@ -72,14 +71,14 @@ leftOf p (up s) = count (outstanding (rowAt (s .table) (placeOf (s .table) (p .c
 leftOf p (down n before) = listed p
 
 -- a prepare is completed and has had n orders carried, or it is its name's latest record and these and what is left are n
-pub data Tally (p : Logged) (n : ℕ) (phase : Phase) (h : History) : Type 0 where
-  over : isCompleted h p ≡ true → carriedFor p h ≡ n → Tally p n phase h
-  waits : latestOf (p .content .name) h ≡ some p → carriedFor p h + leftOf p phase ≡ n → Tally p n phase h
+pub data TotalOrders (p : Logged) (n : ℕ) (phase : Phase) (h : History) : Type 0 where
+  over : isCompleted h p ≡ true → carriedFor p h ≡ n → TotalOrders p n phase h
+  waits : latestOf (p .content .name) h ≡ some p → carriedFor p h + leftOf p phase ≡ n → TotalOrders p n phase h
 
 -- nothing of it changes
-pub tally-same : (p : Logged) (n : ℕ) (a b : Phase) (h v : History) → recordsOf v ≡ recordsOf h → collect carriedIn v ≡ collect carriedIn h → leftOf p b ≡ leftOf p a → Tally p n a h → Tally p n b v
-tally-same p n a b h v r k l (over e f) = over (rw r e) (rw k f)
-tally-same p n a b h v r k l (waits e f) = waits (rw r e) (rw (k, l) f)
+pub total-same : (p : Logged) (n : ℕ) (a b : Phase) (h v : History) → recordsOf v ≡ recordsOf h → collect carriedIn v ≡ collect carriedIn h → leftOf p b ≡ leftOf p a → TotalOrders p n a h → TotalOrders p n b v
+total-same p n a b h v r k l (over e f) = over (rw r e) (rw k f)
+total-same p n a b h v r k l (waits e f) = waits (rw r e) (rw (k, l) f)
 
 -- ---- a record is appended
 
@@ -96,18 +95,18 @@ completed-more p x h v r e =
     go (some y) q f = let z : nextOf p v ≡ some y = ap (findLast (isAfter p)) r ∙ last-there (isAfter p) x (recordsOf h) y q in rw z f
 
 -- of another name
-pub tally-other : (p x : Logged) (n : ℕ) (a b : Phase) (h v : History) → recordsOf v ≡ x ∷ recordsOf h → (x .content .name ≡ p .content .name → ⊥) → collect carriedIn v ≡ collect carriedIn h → leftOf p b ≡ leftOf p a
-    → Tally p n a h → Tally p n b v
-tally-other p x n a b h v r d k l (over e f) = over (completed-more p x h v r e) (rw k f)
-tally-other p x n a b h v r d k l (waits e f) =
+pub total-other : (p x : Logged) (n : ℕ) (a b : Phase) (h v : History) → recordsOf v ≡ x ∷ recordsOf h → (x .content .name ≡ p .content .name → ⊥) → collect carriedIn v ≡ collect carriedIn h → leftOf p b ≡ leftOf p a
+    → TotalOrders p n a h → TotalOrders p n b v
+total-other p x n a b h v r d k l (over e f) = over (completed-more p x h v r e) (rw k f)
+total-other p x n a b h v r d k l (waits e f) =
     waits (ap (latestIn (p .content .name)) r ∙ find-miss (isOf (p .content .name)) x (recordsOf h) (same-false (x .content .name) (p .content .name) d) ∙ e) (rw (k, l) f)
 
 -- whatever its name, what is over stays
-pub tally-over : (p x : Logged) (n : ℕ) (b : Phase) (h v : History) → recordsOf v ≡ x ∷ recordsOf h → collect carriedIn v ≡ collect carriedIn h → isCompleted h p ≡ true → carriedFor p h ≡ n → Tally p n b v
-tally-over p x n b h v r k e f = over (completed-more p x h v r e) (rw k f)
+pub total-over : (p x : Logged) (n : ℕ) (b : Phase) (h v : History) → recordsOf v ≡ x ∷ recordsOf h → collect carriedIn v ≡ collect carriedIn h → isCompleted h p ≡ true → carriedFor p h ≡ n → TotalOrders p n b v
+total-over p x n b h v r k e f = over (completed-more p x h v r e) (rw k f)
 
 -- the complete record itself
-pub completed-now : (c : Catalogue) (p x : Logged) (h v : History) → recordsOf v ≡ x ∷ recordsOf h → Told c h → latestOf (p .content .name) h ≡ some p → isPrepare (p .content .status) ≡ true
+pub completed-now : (c : Catalogue) (p x : Logged) (h v : History) → recordsOf v ≡ x ∷ recordsOf h → HistoryInvariant c h → latestOf (p .content .name) h ≡ some p → isPrepare (p .content .status) ≡ true
     → p .number < x .number → x .content .name ≡ p .content .name → statusCode (x .content .status) ≡ statusCode (p .content .status) + 2 → isCompleted v p ≡ true
 completed-now c p x h v r t e prepares b name code =
     let none-after = latest-last p (length h) (recordsOf h) (t .numbered) e in
@@ -118,8 +117,8 @@ completed-now c p x h v r t e prepares b name code =
 -- ---- the rows of a prepare's place
 
 -- under a record of another name
-pub left-appended : (c : Catalogue) (log log′ : List ℕ) (s : Coordinator) (h : History) (place : ℕ) (row : Row) → UpLog c log s h → Told c h
-    → (v : History) → UpLog c log′ (appended s place row) v → Told c v → (x : Logged) → recordsOf v ≡ x ∷ recordsOf h → place < length (s .table .rows)
+pub left-appended : (c : Catalogue) (log log′ : List ℕ) (s : Coordinator) (h : History) (place : ℕ) (row : Row) → UpLog c log s h → HistoryInvariant c h
+    → (v : History) → UpLog c log′ (appended s place row) v → HistoryInvariant c v → (x : Logged) → recordsOf v ≡ x ∷ recordsOf h → place < length (s .table .rows)
     → (p : Logged) → latestOf (p .content .name) h ≡ some p → (row .name ≡ p .content .name → ⊥) → (x .content .name ≡ p .content .name → ⊥)
     → leftOf p (up (appended s place row)) ≡ leftOf p (up s)
 left-appended c log log′ s h place row u t v u′ t′ x r inside p e d d′ =
