@@ -15,7 +15,7 @@ use borrow.Author.Tests.{eqb-true, eqb-false}
 use Rattle.bits.specs.Bits.{member, insert, difference, count, lowest}
 use Rattle.bits.proofs.Laws.{member-is, member-is-not, member-true, member-false, bit-of-none, lowest-member, left-is, count-left, count-zero, count-none, insert-other, insert-below}
 use Rattle.catalogue.specs.declared.Catalogue.{Catalogue}
-use Rattle.record.specs.Record.{idle, wellFormed}
+use Rattle.record.specs.Record.{wellFormed}
 use Rattle.record.specs.declared.Record.{Record}
 use Rattle.record.proofs.Bounds.{some-joined, well-formed-parts}
 use Rattle.row.specs.Row.{isPrepare, outstanding, recordOf, withEnd, withAcknowledged}
@@ -26,18 +26,18 @@ use Rattle.log_reader.specs.Records.{allCome}
 use Rattle.log_reader.proofs.RecordLaws.{come-newest}
 use Rattle.coordinator.specs.Coordinator.{logEnd, rowFrame, appended, acknowledged}
 use Rattle.coordinator.specs.declared.Coordinator.{Coordinator}
-use Rattle.runs.specs.History.{Order, Produced, Event, recordAppended, markerWritten, entryWritten, History, producedIn, collectWithBefore, Logged, recordsOf, contents, endOf, flushedOf}
-use Rattle.protocol.specs.RecordsOfName.{latestIn}
+use Rattle.runs.specs.History.{Order, Produced, Event, recordAppended, markerWritten, entryWritten, History, producedIn, Logged, recordsOf, contents}
 use Rattle.protocol.specs.Entries.{Entry, entriesOf, kindIn, underOf}
 use Rattle.protocol.specs.HistoryInvariant.{HistoryInvariant}
 use Rattle.protocol.specs.NextEvent.{Appendable}
-use Rattle.protocol.proofs.Lists.{each-in, in-each, either}
-use Rattle.protocol.proofs.Records.{ending-all}
-use Rattle.protocol.proofs.Entries.{collect-before-same, entry-before, under-next, first-open}
-use Rattle.protocol.proofs.NextEvent.{under-each, prepare-idle}
+use Rattle.protocol.proofs.Lists.{in-each, either}
+use Rattle.protocol.proofs.Statuses.{prepare-busy}
+use Rattle.protocol.proofs.Events.{entry-before, newRecord, appended-records, more-entries, entry-records, marker-records, same-entries}
+use Rattle.protocol.proofs.Entries.{under-next, first-open, under-each}
+use Rattle.protocol.proofs.Consequences.{open-now}
 use Rattle.agreement.proofs.Invariant.{placeIn, NoneOpen, AcksAgree}
 use Rattle.agreement.proofs.Tables.{place-kept}
-use Rattle.agreement.proofs.Rows.{open-at}
+use Rattle.agreement.proofs.Rows.{none-open-at}
 
 -- ---- nothing open, under an event
 
@@ -47,46 +47,30 @@ member-nothing x m = true≢false (sym m ∙ member-is-not 0 x (bit-of-none x))
 pub none-open-kept : (c : Catalogue) (h : History) (e : Event) → producedIn e ≡ [] → ((position pid : ℕ) → kindIn position pid e ≡ 0) → recordsOf (e ∷ h) ≡ recordsOf h → (x k : ℕ)
     → NoneOpen c h (recordsOf h) x k → NoneOpen c (e ∷ h) (recordsOf (e ∷ h)) x k
 none-open-kept c h e p q r x k n =
-    rw (r, collect-before-same producedIn e h p) (under-each h e q (λ (m : ℕ) (d : Entry). d .what .position ≡ x → m ≡ 0 → placeIn c (recordsOf h) (d .what .name) ≡ k → ⊥) n)
+    rw (r, same-entries e h p) (under-each h e q (λ (m : ℕ) (d : Entry). d .what .position ≡ x → m ≡ 0 → placeIn c (recordsOf h) (d .what .name) ≡ k → ⊥) n)
 
 pub none-open-marked : (c : Catalogue) (h : History) (o : Order) (x k : ℕ) → NoneOpen c h (recordsOf h) x k → NoneOpen c (markerWritten o ∷ h) (recordsOf (markerWritten o ∷ h)) x k
 none-open-marked c h o x k n =
-    rw (records, collect-before-same producedIn (markerWritten o) h refl)
-    (in-each _ (entriesOf h) (λ d j u z e. each-in (λ (d : Entry). d .what .position ≡ x → underOf h d ≡ 0 → placeIn c (recordsOf h) (d .what .name) ≡ k → ⊥) (entriesOf h) d n j u
+    rw (marker-records h o .records, same-entries (markerWritten o) h refl)
+    (in-each _ (entriesOf h) (λ d j u z e. none-open-at c h (recordsOf h) x k n d j u
     (first-open (underOf h d) _ (sym (under-next (markerWritten o) h d (entry-before h d j)) ∙ z)) e))
-  where
-    records : recordsOf (markerWritten o ∷ h) ≡ recordsOf h
-    records = unfold recordsOf in refl
 
 pub none-open-entered : (c : Catalogue) (h : History) (e : Produced) (x k : ℕ) → (e .position ≡ x → placeIn c (recordsOf h) (e .name) ≡ k → ⊥) → NoneOpen c h (recordsOf h) x k
     → NoneOpen c (entryWritten e ∷ h) (recordsOf (entryWritten e ∷ h)) x k
 none-open-entered c h e x k f n =
-    rw (records, more-entries)
+    rw (entry-records h e .records, more-entries e h)
     (λ u z i. f u i, under-each h (entryWritten e) (λ position pid. refl) (λ (m : ℕ) (d : Entry). d .what .position ≡ x → m ≡ 0 → placeIn c (recordsOf h) (d .what .name) ≡ k → ⊥) n)
-  where
-    records : recordsOf (entryWritten e ∷ h) ≡ recordsOf h
-    records = unfold recordsOf in refl
-
-    more-entries : entriesOf (entryWritten e ∷ h) ≡ record { what = e; before = h } ∷ entriesOf h
-    more-entries = unfold collectWithBefore in refl
 
 pub none-open-appended : (c : Catalogue) (h : History) → HistoryInvariant c h → (r : Record) (end : ℕ) → Appendable c h r end → (x k : ℕ) → NoneOpen c h (recordsOf h) x k
     → NoneOpen c (recordAppended r end ∷ h) (recordsOf (recordAppended r end ∷ h)) x k
 none-open-appended c h t r end w x k n =
-    rw (records, collect-before-same producedIn (recordAppended r end) h refl)
+    rw (appended-records h r end .records, same-entries (recordAppended r end) h refl)
     (under-each h (recordAppended r end) (λ position pid. refl) (λ (m : ℕ) (d : Entry). d .what .position ≡ x → m ≡ 0 → placeIn c (new ∷ recordsOf h) (d .what .name) ≡ k → ⊥)
     (in-each _ (entriesOf h) (λ d j u z e.
-    let m = flushedOf h + endOf (recordsOf h) in
-    let all = ending-all m (recordsOf h) (omega arith) in
-    open-at c h t m (omega arith) d j z (λ l s g.
-    each-in (λ (d : Entry). d .what .position ≡ x → underOf h d ≡ 0 → placeIn c (recordsOf h) (d .what .name) ≡ k → ⊥) (entriesOf h) d n j u z
-    (sym (place-kept c new (recordsOf h) new-come (t .ends) (d .what .name) l (sym (ap (latestIn (d .what .name)) all) ∙ s)) ∙ e)))))
+    open-now c h t d j z (λ l s g. none-open-at c h (recordsOf h) x k n d j u z (sym (place-kept c new (recordsOf h) new-come (t .ends) (d .what .name) l s) ∙ e)))))
   where
     new : Logged
-    new = record { number = length h; content = r; end = end }
-
-    records : recordsOf (recordAppended r end ∷ h) ≡ new ∷ recordsOf h
-    records = unfold recordsOf in refl
+    new = newRecord h r end
 
     new-come : allCome c emptyTable (contents (new ∷ recordsOf h)) ≡ true
     new-come = come-newest c emptyTable r (contents (recordsOf h)) (t .come) (w .formed) (w .comes)
@@ -112,7 +96,7 @@ acks-rows c h s u e a =
 pub fresh-waits : (c : Catalogue) (row : Row) → wellFormed c (recordOf row) ≡ true → row .acknowledged ≡ 0 → isPrepare (row .status) ≡ true → outstanding row ≡ 0 → ⊥
 fresh-waits c row f a p z =
     let w = well-formed-parts c (recordOf row) f in
-    let busy : idle (row .status) ≡ false = either (idle (row .status)) (λ i. absurd (prepare-idle (row .status) p i)) (λ i. i) in
+    let busy = prepare-busy (row .status) p in
     let some : 0 < row .joined = some-joined (row .status) (row .joined) busy (w .joined-status) in
     let (low, m, _) = lowest-member (row .joined) some (w .joined-below) in
     let none-acked : member (row .acknowledged) (lowest (row .joined)) ≡ false = rw a (member-is-not 0 (lowest (row .joined)) (bit-of-none (lowest (row .joined)))) in

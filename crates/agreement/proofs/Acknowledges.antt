@@ -1,5 +1,5 @@
 -- Ack made in carrying: it is never refused, and completes only when nothing of its name is open.
-use Prim.Native.Nat.{ℕ, _+_, _-_, _<_, _^_}
+use Prim.Native.Nat.{ℕ, _-_, _<_, _^_}
 use mathlib.Core.Path.{_≡_, refl, sym, ap, subst, _∙_}
 use mathlib.Core.Bool.{true, false}
 use mathlib.Core.List.{List, _∷_}
@@ -31,22 +31,24 @@ use Rattle.coordinator.proofs.AckCases.{ack-passed}
 use Rattle.coordinator.specs.Calls.{ackCall}
 use Rattle.writer.proofs.Decisions.{byCall}
 use Rattle.writer.proofs.Written.{written-admits}
-use Rattle.runs.specs.History.{Order, orderCarried, History, Logged, recordsOf, contents, endOf, flushedOf, latestOf}
+use Rattle.runs.specs.History.{Order, orderCarried, History, Logged, recordsOf, contents, flushedOf, latestOf}
 use Rattle.runs.specs.World.{up, nothing, World, catalogueOf, withCarrying, withEvent, coordinatorDoes}
 use Rattle.runs.proofs.Admitted.{Own}
 use Rattle.protocol.specs.RecordsOfName.{latestIn}
 use Rattle.protocol.specs.Entries.{Entry, entriesOf, underOf}
 use Rattle.protocol.specs.NextEvent.{NothingOpen}
-use Rattle.protocol.proofs.Lists.{In, some-same, each-in, in-each}
-use Rattle.protocol.proofs.Records.{ending-all, come-record}
-use Rattle.protocol.proofs.NextEvent.{carried-writes-nothing, natural-pos}
+use Rattle.protocol.proofs.Lists.{In, some-same, in-each}
+use Rattle.protocol.proofs.Statuses.{natural-pos}
+use Rattle.protocol.proofs.TableOfRecords.{come-record}
+use Rattle.protocol.proofs.Events.{carried-records}
+use Rattle.protocol.proofs.Consequences.{for-latest, open-now}
+use Rattle.protocol.proofs.WritesNothing.{carried-writes-nothing}
 use Rattle.protocol.proofs.Extends.{Extends, extends-then}
 use Rattle.agreement.proofs.Invariant.{placeIn, NoneOpen, UnderWay, Invariant}
 use Rattle.agreement.proofs.FlushedFirst.{proper, own-place}
 use Rattle.agreement.proofs.LiveTable.{live-ready, live-latest, live-place}
 use Rattle.agreement.proofs.LogSteps.{MayAppend}
-use Rattle.agreement.proofs.Rows.{open-at}
-use Rattle.agreement.proofs.RowsAfterMarker.{for-latest}
+use Rattle.agreement.proofs.Rows.{none-open-at}
 use Rattle.agreement.proofs.Acknowledgements.{none-open-kept, acks-noted, last-one}
 use Rattle.agreement.proofs.Preserves.{Preserves, AcknowledgesClosed, none-carried, log-of, acks-of, did}
 use Rattle.agreement.proofs.Orders.{OrderOnly, order-only-preserves, way-same, prepare-held}
@@ -119,20 +121,18 @@ module _ (w : World) (i : Invariant w) (s : Coordinator) (u : w .phase ≡ up s)
   nothing-open : NoneOpen c h (recordsOf h) (o .position) k0 → lastOutstanding row ≡ true → NothingOpen (row .name) h
   nothing-open n last =
       in-each _ (entriesOf h) (λ d j name z.
-      let k = flushedOf h + endOf (recordsOf h) in
-      let view = ending-all k (recordsOf h) (omega arith) in
       let same-name : d .what .name ≡ r .content .name = name ∙ ap (λ (y : Row). y .name) row-is in
       let at : placeIn c (recordsOf h) (d .what .name) ≡ k0 = ap (placeIn c (recordsOf h)) same-name ∙ it .place in
-      open-at c h (i .of-history) k (omega arith) d j z (λ l e b.
-      let same : l ≡ r = some-same (sym (sym (ap (latestIn (d .what .name)) view) ∙ e) ∙ ap (λ (y : List ℕ). latestIn y (recordsOf h)) same-name ∙ latest-is) in
+      open-now c h (i .of-history) d j z (λ l e b.
+      let same : l ≡ r = some-same (sym e ∙ ap (λ (y : List ℕ). latestIn y (recordsOf h)) same-name ∙ latest-is) in
       let joins : member (row .joined) (d .what .position) ≡ true = ap (λ (y : Row). member (y .joined) (d .what .position)) row-is ∙ sym (ap (λ (y : Logged). member (y .content .joined) (d .what .position)) same) ∙ b .joined in
       go d j z at joins (ℕ-discrete (d .what .position) (o .position))))
     where
       go : (d : Entry) → In d (entriesOf h) → underOf h d ≡ 0 → placeIn c (recordsOf h) (d .what .name) ≡ k0 → member (row .joined) (d .what .position) ≡ true → Dec (d .what .position ≡ o .position) → ⊥
-      go d j z at joins (yes e) = each-in (λ (y : Entry). y .what .position ≡ o .position → underOf h y ≡ 0 → placeIn c (recordsOf h) (y .what .name) ≡ k0 → ⊥) (entriesOf h) d n j e z at
+      go d j z at joins (yes e) = none-open-at c h (recordsOf h) (o .position) k0 n d j e z at
       go d j z at joins (no m) =
           let acked = last-one (row .joined) (row .acknowledged) (o .position) joined-small (acks-of w i s u .small k0) position-below row-joins (way .waits) last (d .what .position) joins m in
-          each-in (λ (y : Entry). y .what .position ≡ d .what .position → underOf h y ≡ 0 → placeIn c (recordsOf h) (y .what .name) ≡ k0 → ⊥) (entriesOf h) d (acks-of w i s u .closed k0 (d .what .position) acked .1) j refl z at
+          none-open-at c h (recordsOf h) (d .what .position) k0 (acks-of w i s u .closed k0 (d .what .position) acked .1) d j refl z at
 
   module _ (n : NoneOpen c h (recordsOf h) (o .position) k0) where
     inside : k0 < length (s .table .rows)
@@ -174,8 +174,8 @@ pub acknowledges-own : (w : World) (i : Invariant w) (s : Coordinator) (u : w .p
 acknowledges-own w i s u o way n =
     let c = catalogueOf w in
     let h = w .history in
-    let b : OrderOnly h (orderCarried o) = record { writes-nothing = carried-writes-nothing h o; no-words = λ x. refl; records = unfold recordsOf in refl; flushed = unfold flushedOf in refl } in
+    let b : OrderOnly h (orderCarried o) = record { writes-nothing = carried-writes-nothing h o; no-words = λ x. refl; keeps = carried-records h o } in
     let v = withCarrying (withEvent w (orderCarried o)) nothing in
     preserves-then w v (coordinatorDoes (ack s (length (w .log)) (o .place) (o .pid) (o .epoch) (o .position) .action) s (withEvent w (orderCarried o)))
     (order-only-preserves w i (orderCarried o) b tt nothing (none-carried c (orderCarried o ∷ h) (w .phase))) (record { of-log = i .own .of-log; of-words = i .own .of-words })
-    (λ j. acked v j s u o (way-same c h (orderCarried o ∷ h) s o (b .records) (b .flushed) way) (none-open-kept c h (orderCarried o) refl (λ position pid. refl) (b .records) (o .position) (o .place) n))
+    (λ j. acked v j s u o (way-same c h (orderCarried o ∷ h) s o (b .keeps .records) (b .keeps .flushed) way) (none-open-kept c h (orderCarried o) refl (λ position pid. refl) (b .keeps .records) (o .position) (o .place) n))

@@ -37,22 +37,24 @@ use Rattle.partition.specs.declared.Producer.{Producer}
 use Rattle.partition.proofs.Laws.{entry-fits}
 use Rattle.partition.proofs.MarkerCases.{marker-other, marker-closes, marker-noted}
 use Rattle.partition.proofs.Reserve.{admits-length}
-use Rattle.runs.specs.History.{Order, markerWritten, History, producedIn, Logged, endingBy, recordsOf, contents, endOf, flushedOf, recordNumbered, wordsOf, wordsIn}
+use Rattle.runs.specs.History.{Order, markerWritten, History, Logged, endingBy, recordsOf, contents, endOf, flushedOf, recordNumbered, wordsOf, wordsIn}
 use Rattle.runs.specs.World.{Phase, up, toAcknowledge, World, catalogueOf, leaderAt, leaderDoes, onceDone}
 use Rattle.runs.specs.Demand3.{IsFor}
 use Rattle.protocol.specs.RecordsOfName.{latestIn}
 use Rattle.protocol.specs.Entries.{Entry, entriesOf, underOf}
 use Rattle.protocol.specs.NextEvent.{Markable}
 use Rattle.protocol.proofs.Lists.{found-is, found-with, In, each-in, in-each, find-in, either}
-use Rattle.protocol.proofs.Records.{ending-all, come-record, table-latest}
-use Rattle.protocol.proofs.Entries.{collect-before-same}
-use Rattle.protocol.proofs.NextEvent.{prepare-code}
+use Rattle.protocol.proofs.Statuses.{prepare-code}
+use Rattle.protocol.proofs.Cuts.{ending-all}
+use Rattle.protocol.proofs.TableOfRecords.{come-record, table-latest}
+use Rattle.protocol.proofs.Events.{marker-records, same-entries}
+use Rattle.protocol.proofs.Consequences.{for-latest}
 use Rattle.protocol.proofs.Extends.{still, more}
 use Rattle.agreement.proofs.Invariant.{NotAhead, epochOf, placeIn, NoneOpen, AcksSide, UnderWay, CarryingSide, Invariant}
 use Rattle.agreement.proofs.Tables.{latest-starts, place-row}
 use Rattle.agreement.proofs.Rows.{held-busy}
 use Rattle.agreement.proofs.RowsAfterProduce.{rows-same, rows-marked-elsewhere}
-use Rattle.agreement.proofs.RowsAfterMarker.{for-latest, place-pid, marked-none, closed-none, another-none, rows-marked, rows-noted}
+use Rattle.agreement.proofs.RowsAfterMarker.{place-pid, marked-none, closed-none, another-none, rows-marked, rows-noted}
 use Rattle.agreement.proofs.Acknowledgements.{none-open-marked, acks-kept}
 use Rattle.agreement.proofs.Words.{words-next, words-same}
 use Rattle.agreement.proofs.Preserves.{Preserves, log-same, acks-of, leaders-of}
@@ -224,8 +226,8 @@ module _ (w : World) (i : Invariant w) (s : Coordinator) (u : w .phase ≡ up s)
     closes : producerAt p k0 .ongoing ≡ true → (n : ℕ) → Preserves w (leaderDoes x (closeTransaction k0 (producerAt p k0) (toNat (o .epoch)) (o .verdict) (toNat (o .coordinator))) (markerWritten o) (toAcknowledge n o) w)
     closes d n =
         leader-preserves w i x below _ (toAcknowledge n o) (markerWritten o ∷ h) (more still may)
-        (rw same-entries (i .offsets))
-        (log-same c (w .log) (w .phase) h (markerWritten o ∷ h) records flushed (i .log-side))
+        (rw (same-entries (markerWritten o) h refl) (i .offsets))
+        (log-same c (w .log) (w .phase) h (markerWritten o ∷ h) (marker-records h o .records) (marker-records h o .flushed) (i .log-side))
         (subst (λ (y : Phase). AcksSide c y (markerWritten o ∷ h)) (sym u) (acks-kept c h s (markerWritten o) (λ y k m z. none-open-marked c h o y k z) (acks-of w i s u)))
         (record {
           words = new-words;
@@ -237,22 +239,13 @@ module _ (w : World) (i : Invariant w) (s : Coordinator) (u : w .phase ≡ up s)
           rows = rows-marked-elsewhere c h (i .of-history) y (leaderAt w y .partition) (i .leaders y .rows) o (λ z. m (sym z));
           coordinator = i .leaders y .coordinator;
         })
-        (subst (λ (y : Phase). CarryingSide c (markerWritten o ∷ h) y (toAcknowledge n o)) (sym u) (way-same c h (markerWritten o ∷ h) s o records flushed way, none-left))
+        (subst (λ (y : Phase). CarryingSide c (markerWritten o ∷ h) y (toAcknowledge n o)) (sym u) (way-same c h (markerWritten o ∷ h) s o (marker-records h o .records) (marker-records h o .flushed) way, none-left))
       where
         k : ℕ
         k = flushedOf h + endOf (recordsOf h)
 
         view : endingBy k (recordsOf h) ≡ recordsOf h
         view = ending-all k (recordsOf h) (omega arith)
-
-        records : recordsOf (markerWritten o ∷ h) ≡ recordsOf h
-        records = unfold recordsOf in refl
-
-        flushed : flushedOf (markerWritten o ∷ h) ≡ flushedOf h
-        flushed = unfold flushedOf in refl
-
-        same-entries : entriesOf (markerWritten o ∷ h) ≡ entriesOf h
-        same-entries = collect-before-same producedIn (markerWritten o) h refl
 
         may : Markable h o
         may =
@@ -277,7 +270,7 @@ module _ (w : World) (i : Invariant w) (s : Coordinator) (u : w .phase ≡ up s)
 
         none-left : NoneOpen c (markerWritten o ∷ h) (recordsOf (markerWritten o ∷ h)) x k0
         none-left =
-            rw (records, same-entries) (in-each _ (entriesOf h) (λ y j a b g. marked-none c h (i .of-history) o r (its .there) f k0 (its .place) k (omega arith) y j a (ap (λ (l : List Logged). placeIn c l (y .what .name)) view ∙ g) b))
+            rw (marker-records h o .records, same-entries (markerWritten o) h refl) (in-each _ (entriesOf h) (λ y j a b g. marked-none c h (i .of-history) o r (its .there) f k0 (its .place) k (omega arith) y j a (ap (λ (l : List Logged). placeIn c l (y .what .name)) view ∙ g) b))
 
   pub delivers-own : (n : ℕ) → Preserves w (leaderDoes x (marker p (length words) k0 (o .pid) (o .epoch) (o .verdict) (o .coordinator) .action) (markerWritten o) (onceDone (reply (marker p (length words) k0 (o .pid) (o .epoch) (o .verdict) (o .coordinator) .answer)) n o) w)
   delivers-own n =

@@ -27,7 +27,8 @@ use Rattle.runs.specs.History.{History, Logged, recordsOf, contents, endOf, flu
 use Rattle.protocol.specs.HistoryInvariant.{HistoryInvariant}
 use Rattle.protocol.specs.NextEvent.{NothingOpen, Appendable}
 use Rattle.protocol.proofs.Lists.{if-found-cases, find-in}
-use Rattle.protocol.proofs.Records.{come-record, ends-length, latest-name, table-latest, table-lacks}
+use Rattle.protocol.proofs.Cuts.{ends-length, latest-name}
+use Rattle.protocol.proofs.TableOfRecords.{come-record, table-latest, table-lacks}
 use Rattle.protocol.proofs.ProducerIds.{option-either}
 use Rattle.agreement.proofs.Invariant.{UpLog, placeIn}
 use Rattle.agreement.proofs.FlushedFirst.{own-place}

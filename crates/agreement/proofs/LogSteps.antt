@@ -30,7 +30,8 @@ use Rattle.runs.specs.History.{History, logFlushed, logCut, logOpened, recordsO
 use Rattle.runs.specs.World.{historyAfter}
 use Rattle.protocol.specs.HistoryInvariant.{HistoryInvariant}
 use Rattle.protocol.specs.NextEvent.{NothingOpen, MayBeNext}
-use Rattle.protocol.proofs.Records.{ending-end, ending-whole, ends-length}
+use Rattle.protocol.proofs.Cuts.{ending-end, ending-whole, ends-length}
+use Rattle.protocol.proofs.Events.{opened-flushed, opened-records}
 use Rattle.protocol.proofs.Extends.{Extends, still, more}
 use Rattle.agreement.proofs.Invariant.{UpLog, DownLog}
 use Rattle.agreement.proofs.LiveTable.{live-end, append-may}
@@ -115,24 +116,18 @@ module _ (text log : List ℕ) (p : parse text .refusal ≡ 0) (n : ℕ) (h : Hi
   pub opened-up : (epoch first last : ℤ) → openingTyped epoch first last ≡ true → openReply (opening text log n epoch first last .answer) .number ≡ 0
       → UpLog c log (opening text log n epoch first last .state) (logOpened epoch ∷ h)
   opened-up epoch first last typed accepted =
-      record { written = rw (same-records, d .left) w; flushed = opened-flushed }
+      record { written = rw (opened-records h epoch, d .left) w; flushed = is-flushed }
     where
       w : Written c log (opening text log n epoch first last .state) (wholeIn c n (d .records))
       w = written-restarts text log (d .state) (d .records) p (d .written) n epoch first last (d .low) (d .high) typed accepted
 
-      same-records : recordsOf (logOpened epoch ∷ h) ≡ recordsOf h
-      same-records = unfold recordsOf in refl
-
       taken : opening text log n epoch first last ≡ record { answer = Opened; state = takenOver c (logRead text log n .table) (length log) epoch first last }
       taken = opening-taken text log n epoch first last (sym (open-number text log n epoch first last) ∙ accepted)
 
-      new-flushed : flushedOf (logOpened epoch ∷ h) ≡ endOf (recordsOf h)
-      new-flushed = unfold flushedOf in refl
-
-      opened-flushed : opening text log n epoch first last .state .flushed ≡ flushedOf (logOpened epoch ∷ h)
-      opened-flushed =
+      is-flushed : opening text log n epoch first last .state .flushed ≡ flushedOf (logOpened epoch ∷ h)
+      is-flushed =
           ap (λ (o : OpenedLog). o .state .flushed) taken ∙ sym (ap (λ (o : OpenedLog). logEnd (o .state)) taken)
-          ∙ written-end c log (opening text log n epoch first last .state) (wholeIn c n (d .records)) w ∙ ap (λ (l : List Record). length (framesOf c l)) (sym (d .left)) ∙ sym (ends-length c (recordsOf h) (t .ends)) ∙ sym new-flushed
+          ∙ written-end c log (opening text log n epoch first last .state) (wholeIn c n (d .records)) w ∙ ap (λ (l : List Record). length (framesOf c l)) (sym (d .left)) ∙ sym (ends-length c (recordsOf h) (t .ends)) ∙ sym (opened-flushed h epoch)
 
   -- what the cut left opens again
   pub down-restarts : (epoch first last : ℤ) → outOfOrder epoch first last ≡ false → openReply (opening text log n epoch first last .answer) .number ≡ 0

@@ -1,7 +1,7 @@
 -- Order: what it gives is for its place's latest record, a flushed prepare, and nothing else changes.
-use Prim.Native.Nat.{ℕ, _+_, _-_, _<_, _^_}
+use Prim.Native.Nat.{ℕ, _-_, _<_, _^_}
 use mathlib.Core.Path.{_≡_, refl, sym, ap, subst, _∙_}
-use mathlib.Core.Bool.{true, false, true≢false}
+use mathlib.Core.Bool.{true, false}
 use mathlib.Core.List.{List, [], _∷_}
 use mathlib.Core.Option.{Option, some}
 use native.Mathlib.Omega.{arith}
@@ -15,9 +15,8 @@ use Rattle.numbers.proofs.Border.{natural-back}
 use Rattle.bits.specs.Bits.{Member, member, lowest}
 use Rattle.bits.proofs.Laws.{member-is, lowest-member, left-parts, subset-and, subset-from}
 use Rattle.catalogue.specs.declared.Catalogue.{Catalogue}
-use Rattle.record.specs.Record.{statusCode, idle, wellFormed}
+use Rattle.record.specs.Record.{statusCode, wellFormed}
 use Rattle.record.specs.declared.Record.{Record}
-use Rattle.record.specs.declared.Status.{Status}
 use Rattle.record.proofs.Statuses.{each}
 use Rattle.record.proofs.Bounds.{well-formed-parts}
 use Rattle.row.specs.Row.{free, isPrepare, held, outstanding, recordOf}
@@ -30,14 +29,17 @@ use Rattle.table.proofs.Reserve.{busy-held}
 use Rattle.coordinator.specs.Order.{due, orderPlace, order}
 use Rattle.coordinator.specs.declared.Coordinator.{Coordinator}
 use Rattle.coordinator.proofs.OrderCases.{Ordered, order-given, order-none, order-found}
-use Rattle.runs.specs.History.{Order, Event, orderGiven, History, producedIn, Logged, recordsOf, flushedOf, latestOf, recordNumbered, wordsIn}
+use Rattle.runs.specs.History.{Order, Event, orderGiven, History, Logged, recordsOf, flushedOf, latestOf, recordNumbered, wordsIn}
 use Rattle.runs.specs.World.{Phase, up, down, Carrying, toDeliver, World, catalogueOf, leaderAt, withCarrying, withEvent, orderedRecord, numberOr, orderAnswered}
 use Rattle.runs.specs.Demand3.{IsFor}
 use Rattle.protocol.specs.NextEvent.{MayBeNext}
 use Rattle.protocol.proofs.Lists.{found-is, found-with, In, find-in, either}
-use Rattle.protocol.proofs.Records.{latest-name, latest-last, come-record}
-use Rattle.protocol.proofs.Entries.{collect-before-same}
-use Rattle.protocol.proofs.NextEvent.{WritesNothing, given-writes-nothing, prepare-idle}
+use Rattle.protocol.proofs.Statuses.{prepare-verdict, prepare-busy}
+use Rattle.protocol.proofs.Cuts.{latest-name}
+use Rattle.protocol.proofs.TableOfRecords.{come-record}
+use Rattle.protocol.proofs.AfterPrepare.{latest-last}
+use Rattle.protocol.proofs.Events.{given-records, same-entries, KeepsRecords}
+use Rattle.protocol.proofs.WritesNothing.{WritesNothing, given-writes-nothing}
 use Rattle.protocol.proofs.Extends.{still, more, extends-keeps, kept-stands}
 use Rattle.agreement.proofs.Invariant.{epochOf, placeIn, AcksSide, UnderWay, CarryingSide, Invariant}
 use Rattle.agreement.proofs.FlushedFirst.{proper}
@@ -50,11 +52,10 @@ use Rattle.agreement.proofs.Preserves.{Preserves, log-same, leader-unwr
 pub record OrderOnly (h : History) (e : Event) : Type 0 where
   pub writes-nothing : WritesNothing h e
   pub no-words : (x : ℕ) → wordsIn x e ≡ []
-  pub records : recordsOf (e ∷ h) ≡ recordsOf h
-  pub flushed : flushedOf (e ∷ h) ≡ flushedOf h
+  pub keeps : KeepsRecords h e
 
 pub acks-order-only : (c : Catalogue) (p : Phase) (h : History) (e : Event) → OrderOnly h e → AcksSide c p h → AcksSide c p (e ∷ h)
-acks-order-only c (up s) h e b a = acks-kept c h s e (λ x k m n. none-open-kept c h e (b .writes-nothing .no-entry) (b .writes-nothing .no-kind) (b .records) x k n) a
+acks-order-only c (up s) h e b a = acks-kept c h s e (λ x k m n. none-open-kept c h e (b .writes-nothing .no-entry) (b .writes-nothing .no-kind) (b .keeps .records) x k n) a
 acks-order-only c (down n before) h e b a = tt
 
 pub for-same : (o : Order) (h v : History) (q : Logged) → recordsOf v ≡ recordsOf h → flushedOf v ≡ flushedOf h → IsFor o h q → IsFor o v q
@@ -90,8 +91,8 @@ order-only-preserves w i e b m k d =
       holds = λ o. record {
         parsed = i .parsed;
         of-history = extends-keeps c h (i .of-history) (more still m);
-        offsets = rw (collect-before-same producedIn e h (b .writes-nothing .no-entry)) (i .offsets);
-        log-side = log-same c (w .log) (w .phase) h (e ∷ h) (b .records) (b .flushed) (i .log-side);
+        offsets = rw (same-entries e h (b .writes-nothing .no-entry)) (i .offsets);
+        log-side = log-same c (w .log) (w .phase) h (e ∷ h) (b .keeps .records) (b .keeps .flushed) (i .log-side);
         acks = acks-order-only c (w .phase) h e b (i .acks);
         own = record { of-log = o .of-log; of-words = o .of-words };
         count = i .count;
@@ -102,16 +103,10 @@ order-only-preserves w i e b m k d =
 
 -- ---- an order
 
-prepare-verdict : (s : Status) → isPrepare s ≡ true → statusCode s ≡ verdictOf s + 2
-prepare-verdict =
-    each (λ s. isPrepare s ≡ true → statusCode s ≡ verdictOf s + 2) (λ p. absurd (true≢false (sym p))) (λ p. absurd (true≢false (sym p))) (λ p. refl) (λ p. refl) (λ p. absurd (true≢false (sym p)))
-    (λ p. absurd (true≢false (sym p)))
-
 -- a prepare's place is held
 pub prepare-held : (w : World) (i : Invariant w) (s : Coordinator) (u : w .phase ≡ up s) (k : ℕ) → isPrepare (rowAt (s .table) k .status) ≡ true → free (rowAt (s .table) k) ≡ false
 prepare-held w i s u k p =
-    let busy : idle (rowAt (s .table) k .status) ≡ false = either (idle (rowAt (s .table) k .status)) (λ e. absurd (prepare-idle (rowAt (s .table) k .status) p e)) (λ e. e) in
-    busy-held (rowAt (s .table) k) (proper s (live-ready (catalogueOf w) (w .log) s (w .history) (log-of w i s u) (i .of-history)) .each k) busy
+    busy-held (rowAt (s .table) k) (proper s (live-ready (catalogueOf w) (w .log) s (w .history) (log-of w i s u) (i .of-history)) .each k) (prepare-busy (rowAt (s .table) k .status) p)
 
 module _ (w : World) (i : Invariant w) (s : Coordinator) (u : w .phase ≡ up s) (set : ℕ) (place : ℕ) (o : Ordered s set (rowAt (s .table) place)) where
   abbrev c : Catalogue
@@ -196,12 +191,12 @@ module _ (w : World) (i : Invariant w) (s : Coordinator) (u : w .phase ≡ up s)
       }
 
   order-only : OrderOnly h (orderGiven given)
-  order-only = record { writes-nothing = given-writes-nothing h given; no-words = λ x. refl; records = unfold recordsOf in refl; flushed = unfold flushedOf in refl }
+  order-only = record { writes-nothing = given-writes-nothing h given; no-words = λ x. refl; keeps = given-records h given }
 
   gives : Preserves w (withCarrying (withEvent w (orderGiven given)) (toDeliver (length h) given))
   gives =
       order-only-preserves w i (orderGiven given) order-only (found-is (IsFor given h) found-for is-for) (toDeliver (length h) given)
-      (subst (λ (p : Phase). CarryingSide c (orderGiven given ∷ h) p (toDeliver (length h) given)) (sym u) (way-same c h (orderGiven given ∷ h) s given (order-only .records) (order-only .flushed) under-way))
+      (subst (λ (p : Phase). CarryingSide c (orderGiven given ∷ h) p (toDeliver (length h) given)) (sym u) (way-same c h (orderGiven given ∷ h) s given (given-records h given .records) (given-records h given .flushed) under-way))
 
 pub orders : (w : World) (i : Invariant w) (s : Coordinator) (u : w .phase ≡ up s) (set : ℕ) → Preserves w (orderAnswered (order s set) s w)
 orders w i s u set =

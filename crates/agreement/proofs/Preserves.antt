@@ -18,13 +18,13 @@ use Rattle.coordinator.specs.Calls.{CoordinatorCall, callTyped, actionOf}
 use Rattle.writer.proofs.Decisions.{Decided, byCall}
 use Rattle.writer.proofs.Lawful.{Lawful, decided-lawful}
 use Rattle.runs.proofs.Epochs.{epoch-kept}
-use Rattle.runs.specs.History.{Event, recordAppended, logFlushed, History, producedIn, recordsOf, contents, flushedOf, wordsIn}
+use Rattle.runs.specs.History.{Event, recordAppended, logFlushed, History, recordsOf, contents, flushedOf, wordsIn}
 use Rattle.runs.specs.World.{Leader, Phase, up, down, nothing, World, catalogueOf, leaderAt, withCarrying, historyAfter, coordinatorDoes, isAck}
 use Rattle.runs.proofs.Admitted.{Own}
 use Rattle.protocol.specs.Entries.{entriesOf}
 use Rattle.protocol.specs.HistoryInvariant.{HistoryInvariant}
-use Rattle.protocol.proofs.Entries.{collect-before-same}
-use Rattle.protocol.proofs.NextEvent.{WritesNothing, flush-writes-nothing}
+use Rattle.protocol.proofs.Events.{flush-records, same-entries}
+use Rattle.protocol.proofs.WritesNothing.{WritesNothing, flush-writes-nothing}
 use Rattle.protocol.proofs.Extends.{Extends, still, extends-keeps}
 use Rattle.agreement.proofs.Invariant.{UpLog, LogSide, LeaderAgrees, epochOf, AcksAgree, AcksSide, CarryingSide, Invariant}
 use Rattle.agreement.proofs.FlushedFirst.{FlushedFirst, call-flushed-first, proper}
@@ -70,9 +70,9 @@ leader-unwritten c h t e q n epoch x l a =
 entries-after : (a : Action) (s : Coordinator) (h : History) → entriesOf (historyAfter a s h) ≡ entriesOf h
 entries-after keep s h = refl
 entries-after (advance clock) s h = refl
-entries-after (append place row) s h = collect-before-same producedIn (recordAppended (recordOf row) (logEnd s + length (rowFrame s row))) h refl
+entries-after (append place row) s h = same-entries (recordAppended (recordOf row) (logEnd s + length (rowFrame s row))) h refl
 entries-after (acknowledgeAt place position) s h = refl
-entries-after (flushTo n) s h = collect-before-same producedIn (logFlushed n) h refl
+entries-after (flushTo n) s h = same-entries (logFlushed n) h refl
 
 -- what is acknowledged is closed
 abbrev pub AcknowledgesClosed : Catalogue → Coordinator → History → Action → Type 0
@@ -149,7 +149,7 @@ module _ (w : World) (i : Invariant w) where
     acks-after (acknowledgeAt place position) l k n = n
     acks-after (flushTo n) l k m =
         acks-rows c (logFlushed n ∷ h) s (after (flushTo n) s) (λ j. refl)
-        (acks-kept c h s (logFlushed n) (λ x k b o. none-open-kept c h (logFlushed n) refl (λ position pid. refl) (unfold recordsOf in refl) x k o) acks-of)
+        (acks-kept c h s (logFlushed n) (λ x k b o. none-open-kept c h (logFlushed n) refl (λ position pid. refl) (flush-records h n) x k o) acks-of)
 
     -- an action, lent the log buffer
     pub did : (a : Action) → Decided s (length (w .log)) a → MayAppend s h a → AcknowledgesClosed c s h a → Preserves w (coordinatorDoes a s w)

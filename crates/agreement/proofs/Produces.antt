@@ -45,15 +45,16 @@ use Rattle.partition.proofs.Fits.{data-fits}
 use Rattle.partition.proofs.Reserve.{opened-reserved, opened-room}
 use Rattle.server.specs.Produce.{producerThen, produceTests, produce}
 use Rattle.server.proofs.ProduceCases.{ProducePassed, produce-passed}
-use Rattle.runs.specs.History.{Produced, entryWritten, History, collectWithBefore, Logged, recordsOf, flushedOf, latestOf, isOf, wordsOf, wordsIn}
+use Rattle.runs.specs.History.{Produced, entryWritten, History, Logged, recordsOf, flushedOf, latestOf, isOf, wordsOf, wordsIn}
 use Rattle.runs.specs.World.{Leader, openLeader, Phase, up, Carrying, nothing, World, catalogueOf, leaderAt, withLeader, leaderDoes}
 use Rattle.runs.specs.Demand3.{Entitled}
 use Rattle.runs.proofs.Admitted.{Own, OwnWords}
 use Rattle.protocol.specs.Entries.{Entry, entriesOf}
 use Rattle.protocol.specs.NextEvent.{MayBeNext}
 use Rattle.protocol.proofs.Lists.{found-is, find-in}
-use Rattle.protocol.proofs.Records.{come-record}
-use Rattle.protocol.proofs.NextEvent.{natural-pos}
+use Rattle.protocol.proofs.Statuses.{natural-pos}
+use Rattle.protocol.proofs.TableOfRecords.{come-record}
+use Rattle.protocol.proofs.Events.{entry-records, more-entries}
 use Rattle.protocol.proofs.Extends.{Extends, still, more, extends-keeps}
 use Rattle.agreement.proofs.Invariant.{LogSide, LeaderAgrees, epochOf, placeIn, NoneOpen, AcksSide, CarryingSide, Invariant}
 use Rattle.agreement.proofs.FlushedFirst.{proper}
@@ -219,8 +220,8 @@ module _ (w : World) (i : Invariant w) (s : Coordinator) (u : w .phase ≡ up s)
     unfolding produced
     writes =
         leader-preserves w i x below (record { partition = p′; words = laid words (entryWords * p .end) four }) nothing (entryWritten e ∷ h) (more still may)
-        (rw more-entries (words-length w i x, i .offsets))
-        (log-same c (w .log) (w .phase) h (entryWritten e ∷ h) records flushed (i .log-side))
+        (rw (more-entries e h) (words-length w i x, i .offsets))
+        (log-same c (w .log) (w .phase) h (entryWritten e ∷ h) (entry-records h e .records) (entry-records h e .flushed) (i .log-side))
         (subst (λ (y : Phase). AcksSide c y (entryWritten e ∷ h)) (sym u) (acks-kept c h s (entryWritten e) kept (acks-of w i s u)))
         (record {
           words = new-words;
@@ -234,15 +235,6 @@ module _ (w : World) (i : Invariant w) (s : Coordinator) (u : w .phase ≡ up s)
         })
         (none-carried c (entryWritten e ∷ h) (w .phase))
       where
-        records : recordsOf (entryWritten e ∷ h) ≡ recordsOf h
-        records = unfold recordsOf in refl
-
-        flushed : flushedOf (entryWritten e ∷ h) ≡ flushedOf h
-        flushed = unfold flushedOf in refl
-
-        more-entries : entriesOf (entryWritten e ∷ h) ≡ record { what = e; before = h } ∷ entriesOf h
-        more-entries = unfold collectWithBefore in refl
-
         kept : (y k : ℕ) → member (rowAt (s .table) k .acknowledged) y ≡ true → NoneOpen c h (recordsOf h) y k → NoneOpen c (entryWritten e ∷ h) (recordsOf (entryWritten e ∷ h)) y k
         kept y k m n = none-open-entered c h e y k (λ a b. true≢false (sym (subst (λ (j : ℕ). isPrepare (rowAt (s .table) j .status) ≡ true) (sym b ∙ at) (acks-of w i s u .closed k y m .0)) ∙ ap isPrepare (is-begin (row .status) (t .begins)))) n
 

@@ -14,7 +14,6 @@ use Rattle.numbers.proofs.Border.{at-least}
 use Rattle.numbers.proofs.Tests.{not-both, and-left, and-right}
 use Rattle.catalogue.specs.Catalogue.{parse}
 use Rattle.catalogue.specs.declared.Catalogue.{Catalogue}
-use Rattle.record.specs.Record.{idle}
 use Rattle.answers.specs.Answers.{reply, openReply}
 use Rattle.answers.specs.Refusals.{firstRefusal}
 use Rattle.answers.specs.declared.Answer.the-variants.{Refused}
@@ -52,12 +51,12 @@ use Rattle.server.proofs.ProduceCases.{produce-passed}
 use Rattle.coordinator.specs.Calls.{CoordinatorCall, initCall, addCall, endCall, tickCall, flushCall, ackCall, actionOf}
 use Rattle.writer.specs.Writer.{openingTyped}
 use Rattle.writer.proofs.Written.{written-admits}
-use Rattle.runs.specs.History.{Order, logCut, logOpened, History, producedIn, recordsOf, contents}
+use Rattle.runs.specs.History.{Order, logCut, logOpened, History, recordsOf, contents}
 use Rattle.runs.specs.World.{Phase, up, down, nothing, World, catalogueOf, leaderAt, coordinatorElsewhere, withPhase, withPartition, onceDone}
 use Rattle.runs.proofs.Leaves.{flush-elsewhere}
-use Rattle.protocol.proofs.Lists.{either}
-use Rattle.protocol.proofs.Entries.{collect-before-same}
-use Rattle.protocol.proofs.NextEvent.{cut-writes-nothing, opened-writes-nothing, prepare-idle}
+use Rattle.protocol.proofs.Statuses.{prepare-busy}
+use Rattle.protocol.proofs.Events.{same-entries}
+use Rattle.protocol.proofs.WritesNothing.{cut-writes-nothing, opened-writes-nothing}
 use Rattle.protocol.proofs.Extends.{still, more, extends-keeps}
 use Rattle.agreement.proofs.Invariant.{DownLog, LogSide, LeaderAgrees, epochOf, AcksAgree, Invariant}
 use Rattle.agreement.proofs.LogSteps.{cut-may, cut-down, opened-may, opened-up}
@@ -81,7 +80,7 @@ cuts w i s u n e =
       holds = λ o. record {
         parsed = i .parsed;
         of-history = extends-keeps c h (i .of-history) (more still may);
-        offsets = rw (collect-before-same producedIn (logCut n) h refl) (i .offsets);
+        offsets = rw (same-entries (logCut n) h refl) (i .offsets);
         log-side = cut-down c (w .log) s h l (i .of-history) n low high;
         acks = tt;
         own = o;
@@ -100,8 +99,7 @@ fresh-acks c h s v =
       closed = λ k x m. absurd (member-nothing x (rw (v .none-acknowledged k) at m));
       small = λ k. rw (v .none-acknowledged k) (omega arith);
       waiting = λ k p z.
-          let busy : idle (rowAt (s .table) k .status) ≡ false = either (idle (rowAt (s .table) k .status)) (λ e. absurd (prepare-idle (rowAt (s .table) k .status) p e)) (λ e. e) in
-          fresh-waits c (rowAt (s .table) k) (v .formed k (busy-held (rowAt (s .table) k) (v .proper .each k) busy)) (v .none-acknowledged k) p z;
+          fresh-waits c (rowAt (s .table) k) (v .formed k (busy-held (rowAt (s .table) k) (v .proper .each k) (prepare-busy (rowAt (s .table) k .status) p))) (v .none-acknowledged k) p z;
     }
 
 pub opening-valid : (text log : List ℕ) (n : ℕ) (epoch first last : ℤ) → openReply (opening text log n epoch first last .answer) .number ≡ 0
@@ -131,7 +129,7 @@ reopens w i n before u epoch first last typed e =
       holds = λ o. record {
         parsed = i .parsed;
         of-history = extends-keeps c h (i .of-history) (more still may);
-        offsets = rw (collect-before-same producedIn (logOpened epoch) h refl) (i .offsets);
+        offsets = rw (same-entries (logOpened epoch) h refl) (i .offsets);
         log-side = opened-up (w .text) (w .log) (i .parsed) n h d (i .of-history) epoch first last typed accepted;
         acks = fresh-acks c (logOpened epoch ∷ h) (opening (w .text) (w .log) n epoch first last .state) valid;
         own = o;

@@ -3,20 +3,18 @@ use Prim.Native.Nat.{ℕ, _≤_, _<_, _^_}
 use mathlib.Core.Path.{_≡_, refl, sym, ap, subst, _∙_}
 use mathlib.Core.Bool.{true, false}
 use mathlib.Core.List.{List, _∷_}
-use mathlib.Core.Option.{some}
 use native.Mathlib.Decide.{ℕ-discrete}
 use native.Mathlib.Omega.{arith}
 use lib.Dec.{leb}
-use lib.ListN.{length, getD}
+use lib.ListN.{getD}
 use mir.Syntax.{w64}
 use borrow.Author.Tests.{leb-true, leb-false, ne-eqb}
 use Rattle.numbers.specs.Border.{toNat}
 use Rattle.numbers.proofs.Border.{natural-below}
-use Rattle.numbers.proofs.Tests.{and-right}
 use Rattle.catalogue.specs.declared.Catalogue.{Catalogue}
 use Rattle.record.specs.declared.Record.{Record}
 use Rattle.record.proofs.Bounds.{formed-starts, well-formed-parts}
-use Rattle.row.specs.Row.{free, isPrepare, held}
+use Rattle.row.specs.Row.{free, held}
 use Rattle.search.specs.Search.{Each}
 use Rattle.table.specs.Table.{emptyTable, rowAt, placeFor}
 use Rattle.log_reader.specs.Records.{tableOf, allCome}
@@ -24,51 +22,41 @@ use Rattle.log_reader.proofs.RecordLaws.{come-newest}
 use Rattle.partition.specs.Limits.{noPid}
 use Rattle.partition.specs.Partition.{producerAt}
 use Rattle.partition.specs.declared.Partition.{Partition}
-use Rattle.runs.specs.History.{Event, recordAppended, History, producedIn, Logged, endingBy, recordsOf, contents, flushedOf, isOf}
-use Rattle.runs.specs.Demand3.{Ends}
-use Rattle.protocol.specs.RecordsOfName.{latestIn, nthPrepare}
-use Rattle.protocol.specs.Entries.{Entry, entriesOf, ordinalOf, kindIn, underOf}
-use Rattle.protocol.specs.HistoryInvariant.{OpenTransaction, Closes, Standing, stillOpen, closed, HistoryInvariant}
+use Rattle.runs.specs.History.{Event, recordAppended, History, Logged, endingBy, recordsOf, contents, flushedOf, isOf}
+use Rattle.protocol.specs.RecordsOfName.{latestIn}
+use Rattle.protocol.specs.Entries.{Entry, entriesOf, underOf}
+use Rattle.protocol.specs.HistoryInvariant.{HistoryInvariant}
 use Rattle.protocol.specs.NextEvent.{Appendable}
-use Rattle.protocol.proofs.Lists.{found-with, find-in, In, each-in, in-each, either}
-use Rattle.protocol.proofs.Records.{ending-stays, ending-drops, ending-all, ending-ends, ending-come, come-record, table-latest}
+use Rattle.protocol.proofs.Lists.{find-in, In, each-in, in-each, either}
+use Rattle.protocol.proofs.Cuts.{ending-stays, ending-drops, ending-all}
+use Rattle.protocol.proofs.TableOfRecords.{come-record, table-latest}
 use Rattle.protocol.proofs.ProducerIds.{PidFrom, fresh, kept, pid-from}
-use Rattle.protocol.proofs.Entries.{collect-before-same, entry-before, under-same, nth-is}
-use Rattle.protocol.proofs.NextEvent.{under-each, WritesNothing, prepare-code}
+use Rattle.protocol.proofs.Events.{appended-records, AddsRecord, newRecord, same-entries}
+use Rattle.protocol.proofs.Entries.{under-each, under-back}
+use Rattle.protocol.proofs.Consequences.{open-at}
+use Rattle.protocol.proofs.WritesNothing.{WritesNothing}
 use Rattle.agreement.proofs.Invariant.{NotAhead, placeIn, Owns, NoneOpen, RowsAgree}
 use Rattle.agreement.proofs.Tables.{latest-starts, place-kept, row-new, row-other, next-rises}
-
--- ---- what an entry stands under, looked at before an event
-
-pub under-back : (h : History) (e : Event) → ((p : Entry) → In p (entriesOf h) → kindIn (p .what .position) (toNat (p .what .pid)) e ≡ 0) → (P : ℕ → Entry → Type 0) → Each (λ (p : Entry). P (underOf (e ∷ h) p) p) (entriesOf h)
-    → Each (λ (p : Entry). P (underOf h p) p) (entriesOf h)
-under-back h e q P i =
-    in-each (λ (p : Entry). P (underOf h p) p) (entriesOf h)
-    (λ p j. subst (λ (n : ℕ). P n p) (under-same e h p (entry-before h p j) (q p j)) (each-in (λ (p : Entry). P (underOf (e ∷ h) p) p) (entriesOf h) p i j))
 
 -- a record that is held is not a free row
 pub held-busy : (c : Catalogue) (l : List Logged) → allCome c emptyTable (contents l) ≡ true → (r : Logged) → In r l → free (held (r .content) (r .end)) ≡ false
 held-busy c l e r i = ne-eqb (getD (r .content .name) 0 0) 0 (formed-starts c (r .content) (come-record c l e r i .0))
 
--- ---- an open entry at a cut
+-- an open entry at a position owns the row at its name's place
+pub open-owns : (c : Catalogue) (h : History) (x : ℕ) (p : Partition) → RowsAgree c h x p → (k : ℕ) → flushedOf h ≤ k → (d : Entry) → In d (entriesOf h) → d .what .position ≡ x → underOf h d ≡ 0
+    → Owns (producerAt p (placeIn c (endingBy k (recordsOf h)) (d .what .name))) d
+open-owns c h x p a k b d j =
+    each-in (λ (d : Entry). d .what .position ≡ x → underOf h d ≡ 0 → Owns (producerAt p (placeIn c (endingBy k (recordsOf h)) (d .what .name))) d) (entriesOf h) d (a .entry-row k b) j
+
+-- and no entry is open where none is
+pub none-open-at : (c : Catalogue) (h : History) (records : List Logged) (x k : ℕ) → NoneOpen c h records x k → (d : Entry) → In d (entriesOf h) → d .what .position ≡ x → underOf h d ≡ 0
+    → placeIn c records (d .what .name) ≡ k → ⊥
+none-open-at c h records x k n d j =
+    each-in (λ (d : Entry). d .what .position ≡ x → underOf h d ≡ 0 → placeIn c records (d .what .name) ≡ k → ⊥) (entriesOf h) d n j
+
+-- ---- the rows of a partition, under an event that it does not write
 
 module _ (c : Catalogue) (h : History) (t : HistoryInvariant c h) where
-  pub view-come : (k : ℕ) → allCome c emptyTable (contents (endingBy k (recordsOf h))) ≡ true
-  view-come k = ending-come k c (recordsOf h) (t .come)
-
-  pub view-ends : (k : ℕ) → Ends c (endingBy k (recordsOf h))
-  view-ends k = ending-ends k c (recordsOf h) (t .ends)
-
-  pub open-at : {X : Type 0} (k : ℕ) → flushedOf h ≤ k → (p : Entry) → In p (entriesOf h) → underOf h p ≡ 0
-      → ((l : Logged) → latestIn (p .what .name) (endingBy k (recordsOf h)) ≡ some l → OpenTransaction p (endingBy k (recordsOf h)) l → X) → X
-  open-at {X} k f p j z g = go (each-in (λ (p : Entry). Standing (underOf h p) (endingBy k (recordsOf h)) p) (entriesOf h) p (t .standing k f) j)
-    where
-      go : Standing (underOf h p) (endingBy k (recordsOf h)) p → X
-      go (stillOpen y b) = found-with (OpenTransaction p (endingBy k (recordsOf h))) (latestIn (p .what .name) (endingBy k (recordsOf h))) b g
-      go (closed b) =
-          found-with (Closes (underOf h p) p) (nthPrepare (p .what .name) (ordinalOf p) (endingBy k (recordsOf h))) b
-          (λ l e d. absurd (let s = prepare-code (l .content .status) (and-right (isOf (p .what .name) l) (isPrepare (l .content .status)) (nth-is (p .what .name) (endingBy k (recordsOf h)) (ordinalOf p) l e .0)) in omega (arith, d .verdict)))
-
   module _ (x : ℕ) (p : Partition) (a : RowsAgree c h x p) where
     -- ---- Flush, a cut, an opening, an Order
 
@@ -76,22 +64,19 @@ module _ (c : Catalogue) (h : History) (t : HistoryInvariant c h) where
     rows-unwritten e q =
         record {
           entry-row = λ k b. let (m, f, v) = q .views k b in
-              rw (v, same-entries) (under-each h e (q .no-kind) (λ (n : ℕ) (d : Entry). d .what .position ≡ x → n ≡ 0 → Owns (producerAt p (placeIn c (endingBy m (recordsOf h)) (d .what .name))) d) (a .entry-row m f));
+              rw (v, same-entries e h (q .no-entry)) (under-each h e (q .no-kind) (λ (n : ℕ) (d : Entry). d .what .position ≡ x → n ≡ 0 → Owns (producerAt p (placeIn c (endingBy m (recordsOf h)) (d .what .name))) d) (a .entry-row m f));
           row-entry = λ k b. let (m, f, v) = q .views k b in
-              rw (v, same-entries) (λ j o n. a .row-entry m f j o (under-back h e (λ d i. q .no-kind (d .what .position) (toNat (d .what .pid))) (λ (n : ℕ) (d : Entry). d .what .position ≡ x → n ≡ 0 → placeIn c (endingBy m (recordsOf h)) (d .what .name) ≡ j → ⊥) n));
+              rw (v, same-entries e h (q .no-entry)) (λ j o n. a .row-entry m f j o (under-back h e (λ d i. q .no-kind (d .what .position) (toNat (d .what .pid))) (λ (n : ℕ) (d : Entry). d .what .position ≡ x → n ≡ 0 → placeIn c (endingBy m (recordsOf h)) (d .what .name) ≡ j → ⊥) n));
           epochs = λ k b. let (m, f, v) = q .views k b in rw v (a .epochs m f);
           firsts = a .firsts;
           pids = λ k b. let (m, f, v) = q .views k b in rw v (a .pids m f);
         }
-      where
-        same-entries : entriesOf (e ∷ h) ≡ entriesOf h
-        same-entries = collect-before-same producedIn e h (q .no-entry)
 
     -- ---- a record
 
     module _ (r : Record) (end : ℕ) (w : Appendable c h r end) where
       abbrev new : Logged
-      new = record { number = length h; content = r; end = end }
+      new = newRecord h r end
 
       new-come : allCome c emptyTable (contents (new ∷ recordsOf h)) ≡ true
       new-come = come-newest c emptyTable r (contents (recordsOf h)) (t .come) (w .formed) (w .comes)
@@ -106,7 +91,7 @@ module _ (c : Catalogue) (h : History) (t : HistoryInvariant c h) where
 
       -- an open entry's place stays
       stays : (k : ℕ) → flushedOf h ≤ k → endingBy k (recordsOf h) ≡ recordsOf h → (d : Entry) → In d (entriesOf h) → underOf h d ≡ 0 → placeIn c (new ∷ recordsOf h) (d .what .name) ≡ placeIn c (recordsOf h) (d .what .name)
-      stays k b v d j z = open-at k b d j z (λ l e y. place-kept c new (recordsOf h) new-come (t .ends) (d .what .name) l (sym (ap (latestIn (d .what .name)) v) ∙ e))
+      stays k b v d j z = open-at c h t k b d j z (λ l e y. place-kept c new (recordsOf h) new-come (t .ends) (d .what .name) l (sym (ap (latestIn (d .what .name)) v) ∙ e))
 
       new-epochs : (k : ℕ) → flushedOf h ≤ k → endingBy k (recordsOf h) ≡ recordsOf h → (j : ℕ) → NotAhead (producerAt p j) (rowAt (tableOf c (contents (new ∷ recordsOf h))) j)
       new-epochs k b v j = go (ℕ-discrete j (placeFor (tableOf c (contents (recordsOf h))) (r .name)))
@@ -140,29 +125,26 @@ module _ (c : Catalogue) (h : History) (t : HistoryInvariant c h) where
       pub rows-append : RowsAgree c (recordAppended r end ∷ h) x p
       rows-append =
           record {
-            entry-row = λ k b. rw (records, same-entries)
+            entry-row = λ k b. rw (added .records, entries)
                 (under-each h (recordAppended r end) (λ position pid. refl) (λ (n : ℕ) (d : Entry). d .what .position ≡ x → n ≡ 0 → Owns (producerAt p (placeIn c (endingBy k (new ∷ recordsOf h)) (d .what .name))) d)
                 (at-cuts (λ l. Each (λ (d : Entry). d .what .position ≡ x → underOf h d ≡ 0 → Owns (producerAt p (placeIn c l (d .what .name))) d) (entriesOf h)) (a .entry-row)
                 (λ m f v. in-each _ (entriesOf h) (λ d j u z.
                 subst (λ (i : ℕ). Owns (producerAt p i) d) (sym (stays m f v d j z))
-                (subst (λ (l : List Logged). Owns (producerAt p (placeIn c l (d .what .name))) d) v (each-in (λ (d : Entry). d .what .position ≡ x → underOf h d ≡ 0 → Owns (producerAt p (placeIn c (endingBy m (recordsOf h)) (d .what .name))) d) (entriesOf h) d (a .entry-row m f) j u z))))
-                k (rw flushed at b)));
-            row-entry = λ k b. rw (records, same-entries)
+                (subst (λ (l : List Logged). Owns (producerAt p (placeIn c l (d .what .name))) d) v (open-owns c h x p a m f d j u z))))
+                k (rw (added .flushed) at b)));
+            row-entry = λ k b. rw (added .records, entries)
                 (λ i o n. at-cuts (λ l. (i : ℕ) → producerAt p i .ongoing ≡ true → NoneOpen c h l x i → ⊥) (a .row-entry)
-                (λ m f v i o n. a .row-entry m f i o (in-each _ (entriesOf h) (λ d j u z e. each-in (λ (d : Entry). d .what .position ≡ x → underOf h d ≡ 0 → placeIn c (new ∷ recordsOf h) (d .what .name) ≡ i → ⊥) (entriesOf h) d n j u z (stays m f v d j z ∙ sym (ap (λ (l : List Logged). placeIn c l (d .what .name)) v) ∙ e))))
-                k (rw flushed at b) i o
+                (λ m f v i o n. a .row-entry m f i o (in-each _ (entriesOf h) (λ d j u z e. none-open-at c h (new ∷ recordsOf h) x i n d j u z (stays m f v d j z ∙ sym (ap (λ (l : List Logged). placeIn c l (d .what .name)) v) ∙ e))))
+                k (rw (added .flushed) at b) i o
                 (under-back h (recordAppended r end) (λ d j. refl) (λ (n : ℕ) (d : Entry). d .what .position ≡ x → n ≡ 0 → placeIn c (endingBy k (new ∷ recordsOf h)) (d .what .name) ≡ i → ⊥) n));
-            epochs = λ k b. rw records (at-cuts (λ l. (i : ℕ) → NotAhead (producerAt p i) (rowAt (tableOf c (contents l)) i)) (a .epochs) new-epochs k (rw flushed at b));
+            epochs = λ k b. rw (added .records) (at-cuts (λ l. (i : ℕ) → NotAhead (producerAt p i) (rowAt (tableOf c (contents l)) i)) (a .epochs) new-epochs k (rw (added .flushed) at b));
             firsts = a .firsts;
-            pids = λ k b. rw records (at-cuts (λ l. (i : ℕ) → (producerAt p i .pid ≡ noPid → ⊥) → producerAt p i .pid < tableOf c (contents l) .next) (a .pids)
-                (λ m f v i n. let low : producerAt p i .pid < tableOf c (contents (recordsOf h)) .next = subst (λ (l : List Logged). producerAt p i .pid < tableOf c (contents l) .next) v (a .pids m f i n) in omega (arith, next-rises c new (recordsOf h) new-come)) k (rw flushed at b));
+            pids = λ k b. rw (added .records) (at-cuts (λ l. (i : ℕ) → (producerAt p i .pid ≡ noPid → ⊥) → producerAt p i .pid < tableOf c (contents l) .next) (a .pids)
+                (λ m f v i n. let low : producerAt p i .pid < tableOf c (contents (recordsOf h)) .next = subst (λ (l : List Logged). producerAt p i .pid < tableOf c (contents l) .next) v (a .pids m f i n) in omega (arith, next-rises c new (recordsOf h) new-come)) k (rw (added .flushed) at b));
           }
         where
-          same-entries : entriesOf (recordAppended r end ∷ h) ≡ entriesOf h
-          same-entries = collect-before-same producedIn (recordAppended r end) h refl
+          added : AddsRecord h r end
+          added = appended-records h r end
 
-          records : recordsOf (recordAppended r end ∷ h) ≡ new ∷ recordsOf h
-          records = unfold recordsOf in refl
-
-          flushed : flushedOf (recordAppended r end ∷ h) ≡ flushedOf h
-          flushed = unfold flushedOf in refl
+          entries : entriesOf (recordAppended r end ∷ h) ≡ entriesOf h
+          entries = same-entries (recordAppended r end) h refl

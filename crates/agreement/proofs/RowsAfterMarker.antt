@@ -4,17 +4,13 @@ use mathlib.Core.Path.{_≡_, refl, sym, ap, subst, _∙_}
 use mathlib.Core.Logic.{_≢_}
 use mathlib.Core.Bool.{Bool, true, false, _&&_, true≢false}
 use mathlib.Core.List.{List, _∷_}
-use mathlib.Core.Option.{some}
 use native.Mathlib.Decide.{ℕ-discrete}
 use native.Mathlib.Omega.{arith}
 use lib.Dec.{eqb}
-use lib.IntN.{pos}
-use lib.ListN.{length}
-use borrow.Author.Tests.{leb-true, eqb-true, eq-eqb}
+use borrow.Author.Tests.{eqb-true, eq-eqb}
 use Rattle.numbers.specs.Border.{toNat}
 use Rattle.numbers.proofs.Tests.{and-right, and-both}
 use Rattle.catalogue.specs.declared.Catalogue.{Catalogue}
-use Rattle.record.proofs.Bounds.{well-formed-parts}
 use Rattle.row.specs.Row.{held}
 use Rattle.row.specs.declared.Row.{Row}
 use Rattle.table.specs.Table.{rowAt}
@@ -23,62 +19,41 @@ use Rattle.partition.specs.Limits.{noPid}
 use Rattle.partition.specs.Partition.{producerAt}
 use Rattle.partition.specs.declared.Partition.{Partition}
 use Rattle.partition.specs.declared.Producer.{Producer}
-use Rattle.runs.specs.History.{Order, markerWritten, History, producedIn, Logged, endingBy, recordsOf, contents, endOf, flushedOf, isOf, nextOf}
-use Rattle.runs.specs.Demand3.{Completes, IsFor}
+use Rattle.runs.specs.History.{Order, markerWritten, History, Logged, endingBy, recordsOf, contents, endOf, flushedOf}
+use Rattle.runs.specs.Demand3.{IsFor}
 use Rattle.protocol.specs.RecordsOfName.{latestIn}
 use Rattle.protocol.specs.Entries.{Entry, entriesOf, underOf}
 use Rattle.protocol.specs.HistoryInvariant.{HistoryInvariant}
-use Rattle.protocol.proofs.Lists.{none-some, some-same, found-with, In, each-in, in-each, find-in, either}
-use Rattle.protocol.proofs.Records.{ending-all, ending-in, latest-name, latest-settled, come-record, After, latest, completed, after-prepare}
-use Rattle.protocol.proofs.ProducerIds.{pid-owner}
-use Rattle.protocol.proofs.Entries.{collect-before-same, entry-before, under-next, under-same, first-open}
+use Rattle.protocol.proofs.Lists.{some-same, In, each-in, in-each, either}
+use Rattle.protocol.proofs.Cuts.{ending-all}
+use Rattle.protocol.proofs.Events.{entry-before, same-entries, marker-records}
+use Rattle.protocol.proofs.Entries.{under-next, under-same, first-open}
+use Rattle.protocol.proofs.Consequences.{cut-come, cut-ends, open-at, open-name, for-latest-at}
 use Rattle.agreement.proofs.Invariant.{NotAhead, placeIn, Owns, NoneOpen, RowsAgree}
 use Rattle.agreement.proofs.Tables.{place-settled, place-name, place-row}
-use Rattle.agreement.proofs.Rows.{view-come, view-ends, open-at}
-
--- ---- the prepare of an order, at every cut
-
-pub for-latest : (c : Catalogue) (h : History) → HistoryInvariant c h → (o : Order) (r : Logged) → In r (recordsOf h) → IsFor o h r → latestIn (r .content .name) (recordsOf h) ≡ some r
-for-latest c h t o r i f = go (after-prepare c (length h) (recordsOf h) (t .come) (t .ends) (t .numbered) r i (f .prepare))
-  where
-    go : After r (recordsOf h) → latestIn (r .content .name) (recordsOf h) ≡ some r
-    go (latest n l) = l
-    go (completed k) = found-with (Completes r) (nextOf r h) k (λ y e g. none-some (sym (f .latest) ∙ e))
+use Rattle.agreement.proofs.Rows.{open-owns}
 
 module _ (c : Catalogue) (h : History) (t : HistoryInvariant c h) (o : Order) (r : Logged) (i : In r (recordsOf h)) (f : IsFor o h r) (k0 : ℕ) (at : placeIn c (recordsOf h) (r .content .name) ≡ k0) where
-  settled-latest : (k : ℕ) → flushedOf h ≤ k → latestIn (r .content .name) (endingBy k (recordsOf h)) ≡ some r
-  settled-latest k b = latest-settled (r .content .name) (flushedOf h) k b (recordsOf h) r (for-latest c h t o r i f) (leb-true (r .end) (flushedOf h) (f .flushed)) .0
-
   settled-place : (k : ℕ) → flushedOf h ≤ k → placeIn c (endingBy k (recordsOf h)) (r .content .name) ≡ k0
-  settled-place k b = place-settled c k (recordsOf h) (t .come) (t .ends) (r .content .name) r (settled-latest k b) ∙ at
+  settled-place k b = place-settled c k (recordsOf h) (t .come) (t .ends) (r .content .name) r (for-latest-at c h t o r i f k b) ∙ at
 
   settled-row : (k : ℕ) → flushedOf h ≤ k → rowAt (tableOf c (contents (endingBy k (recordsOf h)))) k0 ≡ held (r .content) (r .end)
   settled-row k b =
       subst (λ (j : ℕ). rowAt (tableOf c (contents (endingBy k (recordsOf h)))) j ≡ held (r .content) (r .end)) (settled-place k b)
-      (place-row c (endingBy k (recordsOf h)) (view-come c h t k) (view-ends c h t k) (r .content .name) r (settled-latest k b))
+      (place-row c (endingBy k (recordsOf h)) (cut-come c h t k) (cut-ends c h t k) (r .content .name) r (for-latest-at c h t o r i f k b))
 
   -- an open entry whose name is at the order's place is of its producer
   pub place-pid : (k : ℕ) → flushedOf h ≤ k → (d : Entry) → In d (entriesOf h) → underOf h d ≡ 0 → placeIn c (endingBy k (recordsOf h)) (d .what .name) ≡ k0 → d .what .pid ≡ o .pid
   place-pid k b d j z e =
       open-at c h t k b d j z (λ l s g.
-      let name : d .what .name ≡ r .content .name = place-name c (endingBy k (recordsOf h)) (view-come c h t k) (view-ends c h t k) (d .what .name) (r .content .name) l r s (settled-latest k b) (e ∙ sym (settled-place k b)) in
-      let same : l ≡ r = some-same (sym s ∙ ap (λ (n : List ℕ). latestIn n (endingBy k (recordsOf h))) name ∙ settled-latest k b) in
+      let name : d .what .name ≡ r .content .name = place-name c (endingBy k (recordsOf h)) (cut-come c h t k) (cut-ends c h t k) (d .what .name) (r .content .name) l r s (for-latest-at c h t o r i f k b) (e ∙ sym (settled-place k b)) in
+      let same : l ≡ r = some-same (sym s ∙ ap (λ (n : List ℕ). latestIn n (endingBy k (recordsOf h))) name ∙ for-latest-at c h t o r i f k b) in
       sym (g .pid) ∙ ap (λ (y : Logged). y .content .pid) same ∙ f .pid)
-
-  natural : (l : Logged) → In l (recordsOf h) → (n : ℕ) × (l .content .pid ≡ pos n)
-  natural l j = well-formed-parts c (l .content) (come-record c (recordsOf h) (t .come) l j .0) .pid-natural
 
   -- and one of its producer has its name at the order's place
   pub pid-place : (k : ℕ) → flushedOf h ≤ k → (d : Entry) → In d (entriesOf h) → underOf h d ≡ 0 → toNat (o .pid) ≡ toNat (d .what .pid) → placeIn c (endingBy k (recordsOf h)) (d .what .name) ≡ k0
   pid-place k b d j z e =
-      open-at c h t k b d j z (λ l s g.
-      let there-l = ending-in k (recordsOf h) l (find-in (isOf (d .what .name)) (endingBy k (recordsOf h)) l s) in
-      let (m, m-is) = natural l there-l in
-      let (n, n-is) = natural r i in
-      let numbers : n ≡ m = ap toNat (sym n-is ∙ f .pid) ∙ e ∙ ap toNat (sym (g .pid) ∙ m-is) in
-      let pids : r .content .pid ≡ l .content .pid = n-is ∙ ap pos numbers ∙ sym m-is in
-      let names : r .content .name ≡ d .what .name = pid-owner c (recordsOf h) (t .come) (t .ends) r l i there-l pids ∙ latest-name (d .what .name) (endingBy k (recordsOf h)) l s in
-      ap (placeIn c (endingBy k (recordsOf h))) (sym names) ∙ settled-place k b)
+      ap (placeIn c (endingBy k (recordsOf h))) (sym (open-name c h t o r i f k b d j z e)) ∙ settled-place k b
 
   abbrev hits : Entry → Bool
   hits d = eqb (o .position) (d .what .position) && eqb (toNat (o .pid)) (toNat (d .what .pid))
@@ -106,7 +81,7 @@ module _ (c : Catalogue) (h : History) (t : HistoryInvariant c h) (o : Order) (r
         in-each _ (entriesOf h) (λ d j u z e.
         let k = flushedOf h + endOf (recordsOf h) in
         let all = ending-all k (recordsOf h) (omega arith) in
-        let owns = each-in (λ (d : Entry). d .what .position ≡ x → underOf h d ≡ 0 → Owns (producerAt p (placeIn c (endingBy k (recordsOf h)) (d .what .name))) d) (entriesOf h) d (a .entry-row k (omega arith)) j u z in
+        let owns = open-owns c h x p a k (omega arith) d j u z in
         let here : placeIn c (endingBy k (recordsOf h)) (d .what .name) ≡ k0 = ap (λ (l : List Logged). placeIn c l (d .what .name)) all ∙ e in
         true≢false (sym (owns .ongoing) ∙ ap (λ (m : ℕ). producerAt p m .ongoing) here ∙ s))
 
@@ -116,7 +91,7 @@ module _ (c : Catalogue) (h : History) (t : HistoryInvariant c h) (o : Order) (r
         in-each _ (entriesOf h) (λ d j u z e.
         let k = flushedOf h + endOf (recordsOf h) in
         let all = ending-all k (recordsOf h) (omega arith) in
-        let owns = each-in (λ (d : Entry). d .what .position ≡ x → underOf h d ≡ 0 → Owns (producerAt p (placeIn c (endingBy k (recordsOf h)) (d .what .name))) d) (entriesOf h) d (a .entry-row k (omega arith)) j u z in
+        let owns = open-owns c h x p a k (omega arith) d j u z in
         let here : placeIn c (endingBy k (recordsOf h)) (d .what .name) ≡ k0 = ap (λ (l : List Logged). placeIn c l (d .what .name)) all ∙ e in
         n (sym (ap (λ (m : ℕ). producerAt p m .pid) here) ∙ owns .pid ∙ ap toNat (place-pid k (omega arith) d j z here)))
 
@@ -138,7 +113,7 @@ module _ (c : Catalogue) (h : History) (t : HistoryInvariant c h) (o : Order) (r
       owns-at : (k : ℕ) → flushedOf h ≤ k → (d : Entry) → In d (entriesOf h) → d .what .position ≡ x → underOf h d ≡ 0 → (placeIn c (endingBy k (recordsOf h)) (d .what .name) ≡ k0 → ⊥)
           → Owns (producerAt p′ (placeIn c (endingBy k (recordsOf h)) (d .what .name))) d
       owns-at k b d j u z n =
-          subst (λ (y : Producer). Owns y d) (sym (others _ n)) (each-in (λ (d : Entry). d .what .position ≡ x → underOf h d ≡ 0 → Owns (producerAt p (placeIn c (endingBy k (recordsOf h)) (d .what .name))) d) (entriesOf h) d (a .entry-row k b) j u z)
+          subst (λ (y : Producer). Owns y d) (sym (others _ n)) (open-owns c h x p a k b d j u z)
 
       not-here : (j : ℕ) → producerAt p′ j .ongoing ≡ true → j ≢ k0
       not-here j s e = true≢false (sym s ∙ ap (λ (m : ℕ). producerAt p′ m .ongoing) e ∙ ap (λ (y : Producer). y .ongoing) here ∙ shuts)
@@ -153,34 +128,25 @@ module _ (c : Catalogue) (h : History) (t : HistoryInvariant c h) (o : Order) (r
       pub rows-marked : RowsAgree c (markerWritten o ∷ h) x p′
       rows-marked =
           record {
-            entry-row = λ k b. rw (records, same-entries) (in-each _ (entriesOf h) (λ d j u z.
-                owns-at k (rw flushed at b) d j u (first-open (underOf h d) _ (sym (under-next (markerWritten o) h d (entry-before h d j)) ∙ z)) (λ e. marked-none k (rw flushed at b) d j (u ∙ sym position) e z)));
-            row-entry = λ k b. rw (records, same-entries) (λ j s m.
+            entry-row = λ k b. rw (marker-records h o .records, same-entries (markerWritten o) h refl) (in-each _ (entriesOf h) (λ d j u z.
+                owns-at k (rw (marker-records h o .flushed) at b) d j u (first-open (underOf h d) _ (sym (under-next (markerWritten o) h d (entry-before h d j)) ∙ z)) (λ e. marked-none k (rw (marker-records h o .flushed) at b) d j (u ∙ sym position) e z)));
+            row-entry = λ k b. rw (marker-records h o .records, same-entries (markerWritten o) h refl) (λ j s m.
                 let n = not-here j s in
-                a .row-entry k (rw flushed at b) j (sym (ap (λ (y : Producer). y .ongoing) (others j n)) ∙ s)
+                a .row-entry k (rw (marker-records h o .flushed) at b) j (sym (ap (λ (y : Producer). y .ongoing) (others j n)) ∙ s)
                 (in-each _ (entriesOf h) (λ d v u z e.
                 each-in (λ (d : Entry). d .what .position ≡ x → underOf (markerWritten o ∷ h) d ≡ 0 → placeIn c (endingBy k (recordsOf h)) (d .what .name) ≡ j → ⊥) (entriesOf h) d m v u
-                (other-open k (rw flushed at b) d v z (λ y. n (sym e ∙ y))) e)));
-            epochs = λ k b. rw records (λ j. row-epochs k (rw flushed at b) j (ℕ-discrete j k0));
+                (other-open k (rw (marker-records h o .flushed) at b) d v z (λ y. n (sym e ∙ y))) e)));
+            epochs = λ k b. rw (marker-records h o .records) (λ j. row-epochs k (rw (marker-records h o .flushed) at b) j (ℕ-discrete j k0));
             firsts = row-firsts;
-            pids = λ k b. rw records (λ j s. row-pids k (rw flushed at b) j (ℕ-discrete j k0) s);
+            pids = λ k b. rw (marker-records h o .records) (λ j s. row-pids k (rw (marker-records h o .flushed) at b) j (ℕ-discrete j k0) s);
           }
-        where
-          same-entries : entriesOf (markerWritten o ∷ h) ≡ entriesOf h
-          same-entries = collect-before-same producedIn (markerWritten o) h refl
-
-          records : recordsOf (markerWritten o ∷ h) ≡ recordsOf h
-          records = unfold recordsOf in refl
-
-          flushed : flushedOf (markerWritten o ∷ h) ≡ flushedOf h
-          flushed = unfold flushedOf in refl
 
       -- nothing is written: the row was not open
       pub rows-noted : producerAt p k0 .ongoing ≡ false → RowsAgree c h x p′
       rows-noted s =
           record {
             entry-row = λ k b. in-each _ (entriesOf h) (λ d j u z. owns-at k b d j u z (λ e.
-                let owns = each-in (λ (d : Entry). d .what .position ≡ x → underOf h d ≡ 0 → Owns (producerAt p (placeIn c (endingBy k (recordsOf h)) (d .what .name))) d) (entriesOf h) d (a .entry-row k b) j u z in
+                let owns = open-owns c h x p a k b d j u z in
                 true≢false (sym (owns .ongoing) ∙ ap (λ (m : ℕ). producerAt p m .ongoing) e ∙ s)));
             row-entry = λ k b j v m. a .row-entry k b j (sym (ap (λ (y : Producer). y .ongoing) (others j (not-here j v))) ∙ v) m;
             epochs = λ k b j. row-epochs k b j (ℕ-discrete j k0);

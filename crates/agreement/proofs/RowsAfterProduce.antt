@@ -19,30 +19,28 @@ use Rattle.partition.specs.Limits.{noPid}
 use Rattle.partition.specs.Partition.{producerAt}
 use Rattle.partition.specs.declared.Partition.{Partition}
 use Rattle.partition.specs.declared.Producer.{Producer}
-use Rattle.runs.specs.History.{Order, Produced, markerWritten, entryWritten, History, producedIn, collectWithBefore, Logged, endingBy, recordsOf, contents, flushedOf, isOf, latestOf}
+use Rattle.runs.specs.History.{Order, Produced, markerWritten, entryWritten, History, Logged, endingBy, recordsOf, contents, flushedOf, isOf, latestOf}
 use Rattle.runs.specs.Demand3.{Entitled}
 use Rattle.protocol.specs.RecordsOfName.{latestIn}
 use Rattle.protocol.specs.Entries.{Entry, entriesOf, underOf}
 use Rattle.protocol.specs.HistoryInvariant.{HistoryInvariant}
 use Rattle.protocol.proofs.Lists.{some-same, In, each-in, in-each, find-in}
-use Rattle.protocol.proofs.Records.{latest-settled}
+use Rattle.protocol.proofs.Cuts.{latest-settled}
 use Rattle.protocol.proofs.ProducerIds.{pid-below}
-use Rattle.protocol.proofs.Entries.{collect-before-same, entry-before, under-same, under-new}
-use Rattle.protocol.proofs.NextEvent.{under-each}
+use Rattle.protocol.proofs.Events.{entry-before, newEntry, more-entries, entry-records, same-entries, marker-records}
+use Rattle.protocol.proofs.Entries.{under-same, under-new, under-each, under-back}
+use Rattle.protocol.proofs.Consequences.{cut-come, cut-ends, open-at}
 use Rattle.agreement.proofs.Invariant.{NotAhead, placeIn, Owns, RowsAgree}
 use Rattle.agreement.proofs.Tables.{place-settled, place-name, place-row}
-use Rattle.agreement.proofs.Rows.{under-back, view-come, view-ends, open-at}
+use Rattle.agreement.proofs.Rows.{open-owns}
 
 module _ (c : Catalogue) (h : History) (t : HistoryInvariant c h) (x : ℕ) (p : Partition) (a : RowsAgree c h x p) where
-  owns-at : (k : ℕ) → flushedOf h ≤ k → (d : Entry) → In d (entriesOf h) → d .what .position ≡ x → underOf h d ≡ 0 → Owns (producerAt p (placeIn c (endingBy k (recordsOf h)) (d .what .name))) d
-  owns-at k b d j = each-in (λ (d : Entry). d .what .position ≡ x → underOf h d ≡ 0 → Owns (producerAt p (placeIn c (endingBy k (recordsOf h)) (d .what .name))) d) (entriesOf h) d (a .entry-row k b) j
-
   -- ---- the same rows
 
   pub rows-same : (q : Partition) → ((k : ℕ) → producerAt q k ≡ producerAt p k) → p .end ≤ q .end → RowsAgree c h x q
   rows-same q e grows =
       record {
-        entry-row = λ k b. in-each _ (entriesOf h) (λ d j u z. subst (λ (y : Producer). Owns y d) (sym (e (placeIn c (endingBy k (recordsOf h)) (d .what .name)))) (owns-at k b d j u z));
+        entry-row = λ k b. in-each _ (entriesOf h) (λ d j u z. subst (λ (y : Producer). Owns y d) (sym (e (placeIn c (endingBy k (recordsOf h)) (d .what .name)))) (open-owns c h x p a k b d j u z));
         row-entry = λ k b j o. a .row-entry k b j (sym (ap (λ (y : Producer). y .ongoing) (e j)) ∙ o);
         epochs = λ k b j. subst (λ (y : Producer). NotAhead y (rowAt (tableOf c (contents (endingBy k (recordsOf h)))) j)) (sym (e j)) (a .epochs k b j);
         firsts = λ j o. let b = a .firsts j (sym (ap (λ (y : Producer). y .ongoing) (e j)) ∙ o) in omega (arith, ap (λ (y : Producer). y .first) (e j));
@@ -54,23 +52,14 @@ module _ (c : Catalogue) (h : History) (t : HistoryInvariant c h) (x : ℕ) (p :
   pub rows-marked-elsewhere : (o : Order) → (o .position ≡ x → ⊥) → RowsAgree c (markerWritten o ∷ h) x p
   rows-marked-elsewhere o n =
       record {
-        entry-row = λ k b. rw (records, same-entries) (in-each _ (entriesOf h) (λ d j u z. owns-at k (rw flushed at b) d j u (sym (same d j u) ∙ z)));
-        row-entry = λ k b. rw (records, same-entries) (λ j s m. a .row-entry k (rw flushed at b) j s (in-each _ (entriesOf h) (λ d i u z e.
+        entry-row = λ k b. rw (marker-records h o .records, same-entries (markerWritten o) h refl) (in-each _ (entriesOf h) (λ d j u z. open-owns c h x p a k (rw (marker-records h o .flushed) at b) d j u (sym (same d j u) ∙ z)));
+        row-entry = λ k b. rw (marker-records h o .records, same-entries (markerWritten o) h refl) (λ j s m. a .row-entry k (rw (marker-records h o .flushed) at b) j s (in-each _ (entriesOf h) (λ d i u z e.
             each-in (λ (d : Entry). d .what .position ≡ x → underOf (markerWritten o ∷ h) d ≡ 0 → placeIn c (endingBy k (recordsOf h)) (d .what .name) ≡ j → ⊥) (entriesOf h) d m i u (same d i u ∙ z) e)));
-        epochs = λ k b. rw records (a .epochs k (rw flushed at b));
+        epochs = λ k b. rw (marker-records h o .records) (a .epochs k (rw (marker-records h o .flushed) at b));
         firsts = a .firsts;
-        pids = λ k b. rw records (a .pids k (rw flushed at b));
+        pids = λ k b. rw (marker-records h o .records) (a .pids k (rw (marker-records h o .flushed) at b));
       }
     where
-      same-entries : entriesOf (markerWritten o ∷ h) ≡ entriesOf h
-      same-entries = collect-before-same producedIn (markerWritten o) h refl
-
-      records : recordsOf (markerWritten o ∷ h) ≡ recordsOf h
-      records = unfold recordsOf in refl
-
-      flushed : flushedOf (markerWritten o ∷ h) ≡ flushedOf h
-      flushed = unfold flushedOf in refl
-
       same : (d : Entry) → In d (entriesOf h) → d .what .position ≡ x → underOf (markerWritten o ∷ h) d ≡ underOf h d
       same d j u = under-same (markerWritten o) h d (entry-before h d j) (rw (ne-eqb (o .position) (d .what .position) (λ z. n (z ∙ u))))
 
@@ -79,23 +68,14 @@ module _ (c : Catalogue) (h : History) (t : HistoryInvariant c h) (x : ℕ) (p :
   pub rows-entered-elsewhere : (e : Produced) → (e .position ≡ x → ⊥) → RowsAgree c (entryWritten e ∷ h) x p
   rows-entered-elsewhere e n =
       record {
-        entry-row = λ k b. rw (records, more-entries)
-            (λ u z. absurd (n u), under-each h (entryWritten e) (λ position pid. refl) (λ (m : ℕ) (d : Entry). d .what .position ≡ x → m ≡ 0 → Owns (producerAt p (placeIn c (endingBy k (recordsOf h)) (d .what .name))) d) (a .entry-row k (rw flushed at b)));
-        row-entry = λ k b. rw (records, more-entries)
-            (λ j s m. a .row-entry k (rw flushed at b) j s (under-back h (entryWritten e) (λ d i. refl) (λ (m : ℕ) (d : Entry). d .what .position ≡ x → m ≡ 0 → placeIn c (endingBy k (recordsOf h)) (d .what .name) ≡ j → ⊥) (m .1)));
-        epochs = λ k b. rw records (a .epochs k (rw flushed at b));
+        entry-row = λ k b. rw (entry-records h e .records, more-entries e h)
+            (λ u z. absurd (n u), under-each h (entryWritten e) (λ position pid. refl) (λ (m : ℕ) (d : Entry). d .what .position ≡ x → m ≡ 0 → Owns (producerAt p (placeIn c (endingBy k (recordsOf h)) (d .what .name))) d) (a .entry-row k (rw (entry-records h e .flushed) at b)));
+        row-entry = λ k b. rw (entry-records h e .records, more-entries e h)
+            (λ j s m. a .row-entry k (rw (entry-records h e .flushed) at b) j s (under-back h (entryWritten e) (λ d i. refl) (λ (m : ℕ) (d : Entry). d .what .position ≡ x → m ≡ 0 → placeIn c (endingBy k (recordsOf h)) (d .what .name) ≡ j → ⊥) (m .1)));
+        epochs = λ k b. rw (entry-records h e .records) (a .epochs k (rw (entry-records h e .flushed) at b));
         firsts = a .firsts;
-        pids = λ k b. rw records (a .pids k (rw flushed at b));
+        pids = λ k b. rw (entry-records h e .records) (a .pids k (rw (entry-records h e .flushed) at b));
       }
-    where
-      more-entries : entriesOf (entryWritten e ∷ h) ≡ record { what = e; before = h } ∷ entriesOf h
-      more-entries = unfold collectWithBefore in refl
-
-      records : recordsOf (entryWritten e ∷ h) ≡ recordsOf h
-      records = unfold recordsOf in refl
-
-      flushed : flushedOf (entryWritten e ∷ h) ≡ flushedOf h
-      flushed = unfold flushedOf in refl
 
   -- ---- one row changes
 
@@ -110,7 +90,7 @@ module _ (c : Catalogue) (h : History) (t : HistoryInvariant c h) (x : ℕ) (p :
         (pid-is : q .pid ≡ toNat (e .pid)) (epoch-is : q .epoch ≡ toNat (e .epoch)) (first-is : q .first ≤ e .offset) (first-kept : producerAt p k0 .ongoing ≡ true → q .first ≡ producerAt p k0 .first)
         (within : q .first ≤ p′ .end) (grows : p .end ≤ p′ .end) where
       abbrev written : Entry
-      written = record { what = e; before = h }
+      written = newEntry h e
 
       -- its name's latest record, place and row at every cut
       settled-latest : (k : ℕ) → flushedOf h ≤ k → latestIn (e .name) (endingBy k (recordsOf h)) ≡ some l
@@ -120,18 +100,18 @@ module _ (c : Catalogue) (h : History) (t : HistoryInvariant c h) (x : ℕ) (p :
       settled-place k b = place-settled c k (recordsOf h) (t .come) (t .ends) (e .name) l (settled-latest k b) ∙ at
 
       settled-row : (k : ℕ) → flushedOf h ≤ k → rowAt (tableOf c (contents (endingBy k (recordsOf h)))) k0 ≡ held (l .content) (l .end)
-      settled-row k b = subst (λ (i : ℕ). rowAt (tableOf c (contents (endingBy k (recordsOf h)))) i ≡ held (l .content) (l .end)) (settled-place k b) (place-row c (endingBy k (recordsOf h)) (view-come c h t k) (view-ends c h t k) (e .name) l (settled-latest k b))
+      settled-row k b = subst (λ (i : ℕ). rowAt (tableOf c (contents (endingBy k (recordsOf h)))) i ≡ held (l .content) (l .end)) (settled-place k b) (place-row c (endingBy k (recordsOf h)) (cut-come c h t k) (cut-ends c h t k) (e .name) l (settled-latest k b))
 
       old-owns : (k : ℕ) → flushedOf h ≤ k → (d : Entry) → In d (entriesOf h) → d .what .position ≡ x → underOf h d ≡ 0 → Owns (producerAt p′ (placeIn c (endingBy k (recordsOf h)) (d .what .name))) d
       old-owns k b d j u z = go (ℕ-discrete (placeIn c (endingBy k (recordsOf h)) (d .what .name)) k0)
         where
           go : Dec (placeIn c (endingBy k (recordsOf h)) (d .what .name) ≡ k0) → Owns (producerAt p′ (placeIn c (endingBy k (recordsOf h)) (d .what .name))) d
-          go (no n) = owns-other d _ n (owns-at k b d j u z)
+          go (no n) = owns-other d _ n (open-owns c h x p a k b d j u z)
           go (yes i) =
               open-at c h t k b d j z (λ r s g.
-              let name : d .what .name ≡ e .name = place-name c (endingBy k (recordsOf h)) (view-come c h t k) (view-ends c h t k) (d .what .name) (e .name) r l s (settled-latest k b) (i ∙ sym (settled-place k b)) in
+              let name : d .what .name ≡ e .name = place-name c (endingBy k (recordsOf h)) (cut-come c h t k) (cut-ends c h t k) (d .what .name) (e .name) r l s (settled-latest k b) (i ∙ sym (settled-place k b)) in
               let same : r ≡ l = some-same (sym s ∙ ap (λ (n : List ℕ). latestIn n (endingBy k (recordsOf h))) name ∙ settled-latest k b) in
-              let owned : Owns (producerAt p k0) d = subst (λ (m : ℕ). Owns (producerAt p m) d) i (owns-at k b d j u z) in
+              let owned : Owns (producerAt p k0) d = subst (λ (m : ℕ). Owns (producerAt p m) d) i (open-owns c h x p a k b d j u z) in
               let older : q .first ≤ d .what .offset = omega (arith, first-kept (owned .ongoing), owned .first) in
               let pids : d .what .pid ≡ e .pid = sym (g .pid) ∙ ap (λ (y : Logged). y .content .pid) same ∙ f .pid in
               subst (λ (m : ℕ). Owns (producerAt p′ m) d) (sym i) (subst (λ (y : Producer). Owns y d) (sym here) (record { ongoing = ongoing; pid = pid-is ∙ ap toNat (sym pids); first = older })))
@@ -139,25 +119,16 @@ module _ (c : Catalogue) (h : History) (t : HistoryInvariant c h) (x : ℕ) (p :
       pub rows-entered : e .position ≡ x → RowsAgree c (entryWritten e ∷ h) x p′
       rows-entered position =
           record {
-            entry-row = λ k b. rw (records, more-entries) (
-              λ u z. subst (λ (m : ℕ). Owns (producerAt p′ m) written) (sym (settled-place k (rw flushed at b))) (subst (λ (y : Producer). Owns y written) (sym here) (record { ongoing = ongoing; pid = pid-is; first = first-is })),
-              under-each h (entryWritten e) (λ position pid. refl) (λ (m : ℕ) (d : Entry). d .what .position ≡ x → m ≡ 0 → Owns (producerAt p′ (placeIn c (endingBy k (recordsOf h)) (d .what .name))) d) (in-each _ (entriesOf h) (λ d j. old-owns k (rw flushed at b) d j)),
+            entry-row = λ k b. rw (entry-records h e .records, more-entries e h) (
+              λ u z. subst (λ (m : ℕ). Owns (producerAt p′ m) written) (sym (settled-place k (rw (entry-records h e .flushed) at b))) (subst (λ (y : Producer). Owns y written) (sym here) (record { ongoing = ongoing; pid = pid-is; first = first-is })),
+              under-each h (entryWritten e) (λ position pid. refl) (λ (m : ℕ) (d : Entry). d .what .position ≡ x → m ≡ 0 → Owns (producerAt p′ (placeIn c (endingBy k (recordsOf h)) (d .what .name))) d) (in-each _ (entriesOf h) (λ d j. old-owns k (rw (entry-records h e .flushed) at b) d j)),
             );
-            row-entry = λ k b. rw (records, more-entries) (λ j s m. go k (rw flushed at b) j (ℕ-discrete j k0) s (m .0) (m .1));
-            epochs = λ k b. rw records (λ j. row-epochs k (rw flushed at b) j (ℕ-discrete j k0));
+            row-entry = λ k b. rw (entry-records h e .records, more-entries e h) (λ j s m. go k (rw (entry-records h e .flushed) at b) j (ℕ-discrete j k0) s (m .0) (m .1));
+            epochs = λ k b. rw (entry-records h e .records) (λ j. row-epochs k (rw (entry-records h e .flushed) at b) j (ℕ-discrete j k0));
             firsts = λ j s. row-firsts j (ℕ-discrete j k0) s;
-            pids = λ k b. rw records (λ j s. row-pids k (rw flushed at b) j (ℕ-discrete j k0) s);
+            pids = λ k b. rw (entry-records h e .records) (λ j s. row-pids k (rw (entry-records h e .flushed) at b) j (ℕ-discrete j k0) s);
           }
         where
-          more-entries : entriesOf (entryWritten e ∷ h) ≡ written ∷ entriesOf h
-          more-entries = unfold collectWithBefore in refl
-
-          records : recordsOf (entryWritten e ∷ h) ≡ recordsOf h
-          records = unfold recordsOf in refl
-
-          flushed : flushedOf (entryWritten e ∷ h) ≡ flushedOf h
-          flushed = unfold flushedOf in refl
-
           go : (k : ℕ) → flushedOf h ≤ k → (j : ℕ) → Dec (j ≡ k0) → producerAt p′ j .ongoing ≡ true
               → (e .position ≡ x → underOf (entryWritten e ∷ h) written ≡ 0 → placeIn c (endingBy k (recordsOf h)) (e .name) ≡ j → ⊥)
               → Each (λ (d : Entry). d .what .position ≡ x → underOf (entryWritten e ∷ h) d ≡ 0 → placeIn c (endingBy k (recordsOf h)) (d .what .name) ≡ j → ⊥) (entriesOf h) → ⊥
@@ -179,6 +150,6 @@ module _ (c : Catalogue) (h : History) (t : HistoryInvariant c h) (x : ℕ) (p :
           row-pids : (k : ℕ) → flushedOf h ≤ k → (j : ℕ) → Dec (j ≡ k0) → (producerAt p′ j .pid ≡ noPid → ⊥) → producerAt p′ j .pid < tableOf c (contents (endingBy k (recordsOf h))) .next
           row-pids k b j (yes i) s =
               let same : producerAt p′ j .pid ≡ toNat (e .pid) = ap (λ (m : ℕ). producerAt p′ m .pid) i ∙ ap (λ (y : Producer). y .pid) here ∙ pid-is in
-              let low = pid-below c (endingBy k (recordsOf h)) (view-come c h t k) l (find-in (isOf (e .name)) (endingBy k (recordsOf h)) l (settled-latest k b)) in
+              let low = pid-below c (endingBy k (recordsOf h)) (cut-come c h t k) l (find-in (isOf (e .name)) (endingBy k (recordsOf h)) l (settled-latest k b)) in
               omega (arith, ap toNat (f .pid))
           row-pids k b j (no n) s = rw (others j n) (a .pids k b j (λ z. s (ap (λ (y : Producer). y .pid) (others j n) ∙ z)))

@@ -38,7 +38,7 @@ use Rattle.writer.specs.Writer.{AcceptedOpening}
 use Rattle.writer.proofs.Reached.{opened-catalogue}
 use Rattle.writer.proofs.Reopening.{written-opened}
 use Rattle.writer.proofs.Written.{written-end}
-use Rattle.runs.specs.History.{recordAppended, logOpened, History, ordersIn, markersIn, producedIn, collect, collectWithBefore, recordsOf, contents, endOf, flushedOf, wordsOf}
+use Rattle.runs.specs.History.{recordAppended, logOpened, History, ordersIn, markersIn, collect, collectWithBefore, recordsOf, contents, endOf, wordsOf}
 use Rattle.runs.specs.World.{openLeader, openLeaders, recordsRead, up, nothing, FirstOpening, Accepted, start}
 use Rattle.runs.specs.Demand3.{Ends}
 use Rattle.runs.proofs.Admitted.{start-own}
@@ -46,8 +46,8 @@ use Rattle.protocol.specs.RecordsOfName.{NumberedBelow}
 use Rattle.protocol.specs.Entries.{entriesOf}
 use Rattle.protocol.specs.HistoryInvariant.{HistoryInvariant}
 use Rattle.protocol.proofs.Lists.{in-each}
-use Rattle.protocol.proofs.Records.{numbered-more}
-use Rattle.protocol.proofs.Entries.{collect-before-same, collect-same}
+use Rattle.protocol.proofs.Cuts.{numbered-more}
+use Rattle.protocol.proofs.Events.{collect-before-same, collect-same, opened-flushed, same-entries, opened-records}
 use Rattle.agreement.proofs.Invariant.{UpLog, LeaderAgrees, Invariant}
 use Rattle.agreement.proofs.Words.{words-same}
 use Rattle.agreement.proofs.Restarts.{fresh-acks, opening-valid}
@@ -164,10 +164,10 @@ module _ (o : FirstOpening) (a : Accepted o) where
   h = logOpened (o .epoch) ∷ eventsFor c (says .records)
 
   records : recordsOf h ≡ recordsOf (eventsFor c (says .records))
-  records = unfold recordsOf in refl
+  records = opened-records (eventsFor c (says .records)) (o .epoch)
 
   no-entries : entriesOf h ≡ []
-  no-entries = collect-before-same producedIn (logOpened (o .epoch)) (eventsFor c (says .records)) refl ∙ for-no-entry c (says .records)
+  no-entries = same-entries (logOpened (o .epoch)) (eventsFor c (says .records)) refl ∙ for-no-entry c (says .records)
 
   no-orders : collectWithBefore ordersIn h ≡ []
   no-orders = collect-before-same ordersIn (logOpened (o .epoch)) (eventsFor c (says .records)) refl ∙ for-no-order c (says .records)
@@ -194,12 +194,11 @@ module _ (o : FirstOpening) (a : Accepted o) where
   log-side =
       let w = written-opened (o .text) (o .log) (o .length) (o .epoch) (o .first) (o .last) (a .1) (a .0) in
       let taken = opening-taken (o .text) (o .log) (o .length) (o .epoch) (o .first) (o .last) (sym (open-number (o .text) (o .log) (o .length) (o .epoch) (o .first) (o .last)) ∙ a .0) in
-      let new-flushed : flushedOf h ≡ endOf (recordsOf (eventsFor c (says .records))) = unfold flushedOf in refl in
       record {
         written = rw (records, for-contents c (says .records)) w;
         flushed =
             ap (λ (x : OpenedLog). x .state .flushed) taken ∙ sym (ap (λ (x : OpenedLog). logEnd (x .state)) taken)
-            ∙ written-end c (o .log) (opening (o .text) (o .log) (o .length) (o .epoch) (o .first) (o .last) .state) (says .records) w ∙ sym (for-end c (says .records)) ∙ sym new-flushed;
+            ∙ written-end c (o .log) (opening (o .text) (o .log) (o .length) (o .epoch) (o .first) (o .last) .state) (says .records) w ∙ sym (for-end c (says .records)) ∙ sym (opened-flushed (eventsFor c (says .records)) (o .epoch));
       }
 
   -- a partition that is just opened

@@ -27,7 +27,8 @@ use Rattle.runs.specs.History.{Logged, endingBy, contents, isOf}
 use Rattle.runs.specs.Demand3.{Ends}
 use Rattle.protocol.specs.RecordsOfName.{latestIn}
 use Rattle.protocol.proofs.Lists.{find-in, find-passes, find-some, either}
-use Rattle.protocol.proofs.Records.{ending-stays, ending-drops, ending-in, latest-name, come-record, table-latest}
+use Rattle.protocol.proofs.Cuts.{ending-stays, ending-drops, ending-in, latest-name}
+use Rattle.protocol.proofs.TableOfRecords.{come-record, table-latest}
 use Rattle.agreement.proofs.Invariant.{placeIn}
 
 module _ (c : Catalogue) where

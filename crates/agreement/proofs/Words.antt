@@ -17,7 +17,8 @@ use Rattle.partition.specs.Read.{isMarker, nextMarker, standsUnder}
 use Rattle.runs.specs.History.{Order, Event, recordAppended, logFlushed, logCut, logOpened, orderGiven, markerWritten, orderCarried, entryWritten, History, eventsBefore, markersIn, collect, collectWithBefore, wordsIn, wordsOf}
 use Rattle.protocol.specs.Entries.{Entry, entriesOf, kindIn, firstOf, markedFrom, underOf}
 use Rattle.protocol.proofs.Lists.{In, in-nil, in-cons, either}
-use Rattle.protocol.proofs.Entries.{events-before, entry-before, marked-next, marked-new, first-kept, first-zero}
+use Rattle.protocol.proofs.Events.{events-before, entry-before}
+use Rattle.protocol.proofs.Entries.{marked-next, marked-new, first-kept, first-zero}
 
 -- ---- the next marker of a pid, of one entry more
 

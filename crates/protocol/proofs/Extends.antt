@@ -1,31 +1,26 @@
--- What follows from the order side: a flushed prepare is kept, and every entry of a completed prepare's transaction stands under its verdict.
-use Prim.Native.Nat.{ℕ, _+_, _-_, _≤_}
-use mathlib.Core.Path.{_≡_, sym, ap, subst, _∙_}
-use mathlib.Core.Bool.{true, true≢false, _&&_}
+-- Histories that grow event by event: what is flushed stays, and a flushed prepare is kept.
+use Prim.Native.Nat.{ℕ, _-_, _≤_}
+use mathlib.Core.Path.{_≡_, ap}
+use mathlib.Core.Bool.{true}
 use mathlib.Core.List.{List, [], _∷_}
-use mathlib.Core.Option.{none, some}
+use mathlib.Core.Option.{some}
 use native.Mathlib.Omega.{arith}
-use lib.Dec.{eqb, leb, ltb}
+use lib.Dec.{leb}
 use lib.ListN.{length}
-use borrow.Author.Tests.{leb-true, leb-false, ltb-true}
-use Rattle.numbers.specs.Bytes.{same}
+use borrow.Author.Tests.{leb-true, leb-false}
 use Rattle.numbers.proofs.Tests.{by-cases, and-left, and-right}
-use Rattle.numbers.proofs.Bytes.{same-true}
 use Rattle.catalogue.specs.declared.Catalogue.{Catalogue}
-use Rattle.record.specs.Record.{statusCode}
 use Rattle.row.specs.Row.{isPrepare}
-use Rattle.search.specs.Search.{found, Each, IfFound}
-use Rattle.runs.specs.History.{Event, recordAppended, logFlushed, logCut, logOpened, orderGiven, markerWritten, orderCarried, entryWritten, History, eventsBefore, preparedBefore, numberAfter, Logged, endingBy, recordsOf, flushedOf, isFlushed, isFlushedPrepare, recordNumbered, nextOf, flushedPrepares, isCompleted, completedPrepares, transaction, markerOver}
-use Rattle.runs.specs.Demand3.{Completes, StandsUnder}
-use Rattle.protocol.specs.RecordsOfName.{latestIn, nthPrepare}
-use Rattle.protocol.specs.Entries.{Entry, entriesOf, ordinalOf, underOf}
-use Rattle.protocol.specs.HistoryInvariant.{Stage, begun, prepared, OpenTransaction, Closes, Standing, stillOpen, closed, InTransaction, HistoryInvariant}
+use Rattle.search.specs.Search.{Each, IfFound}
+use Rattle.runs.specs.History.{Event, recordAppended, logFlushed, logCut, logOpened, orderGiven, markerWritten, orderCarried, entryWritten, History, Logged, endingBy, recordsOf, flushedOf, isFlushed, isFlushedPrepare, recordNumbered, nextOf, flushedPrepares}
+use Rattle.runs.specs.Demand3.{Completes}
+use Rattle.protocol.specs.HistoryInvariant.{HistoryInvariant}
 use Rattle.protocol.specs.NextEvent.{MayBeNext}
-use Rattle.protocol.proofs.Lists.{some-same, is-found, found-with, In, there, in-cons, each-in, in-each, each-filter}
-use Rattle.protocol.proofs.Records.{numbered-found, After, latest, completed, after-prepare, latest-last}
-use Rattle.protocol.proofs.Entries.{nth-below, nth-latest, ends-most}
-use Rattle.protocol.proofs.NextEvent.{next-keeps, standing-at, prepare-code}
-use Rattle.protocol.proofs.MarkerOver.{under-over, over-verdict}
+use Rattle.protocol.proofs.Lists.{found-with, In, there, in-cons, in-each, each-filter}
+use Rattle.protocol.proofs.Cuts.{numbered-found}
+use Rattle.protocol.proofs.AfterPrepare.{After, latest, completed, after-prepare}
+use Rattle.protocol.proofs.Ordinals.{ends-most}
+use Rattle.protocol.proofs.NextEvent.{next-keeps}
 
 -- ---- histories that grow event by event
 
@@ -86,50 +81,3 @@ pub each-flushed-prepare : (h : History) (P : Logged → Type 0) → ((r : Logge
 each-flushed-prepare h P f =
     each-filter P (isFlushedPrepare h) (recordsOf h)
     (in-each _ (recordsOf h) (λ r i e. f r (record { stands = i; flushed = leb-true (r .end) (flushedOf h) (and-right (isPrepare (r .content .status)) (isFlushed h r) e) }) (and-left (isPrepare (r .content .status)) (isFlushed h r) e)))
-
--- ---- under its verdict
-
--- an entry of a completed prepare's transaction
-under-completed : (c : Catalogue) (h : History) → HistoryInvariant c h → (q : Logged) → In q (recordsOf h) → isCompleted h q ≡ true → (p : Entry) → In p (entriesOf h) → InTransaction h q p
-    → statusCode (q .content .status) ≡ underOf h p + 1
-under-completed c h t q i e p j w = go (standing-at c h t p j)
-  where
-    prepares : isPrepare (q .content .status) ≡ true
-    prepares = and-left (isPrepare (q .content .status)) _ e
-
-    is : nthPrepare (p .what .name) (ordinalOf p) (recordsOf h) ≡ some q
-    is = each-in (λ (p : Entry). InTransaction h q p → nthPrepare (p .what .name) (ordinalOf p) (recordsOf h) ≡ some q) (entriesOf h) p
-        (each-in (λ (q : Logged). isPrepare (q .content .status) ≡ true → Each (λ (p : Entry). InTransaction h q p → nthPrepare (p .what .name) (ordinalOf p) (recordsOf h) ≡ some q) (entriesOf h)) (recordsOf h) q (t .by-ordinal) i prepares) j w
-
-    not-latest : nextOf q h ≡ none → ⊥
-    not-latest n =
-        let k : found (λ (x : Logged). eqb (statusCode (x .content .status)) (statusCode (q .content .status) + 2)) (nextOf q h) ≡ true = and-right (isPrepare (q .content .status)) _ e in
-        true≢false (sym (rw n at k))
-
-    latest-q : latestIn (p .what .name) (recordsOf h) ≡ some q → ⊥
-    latest-q l = not-latest (latest-last q (length h) (recordsOf h) (t .numbered) (subst (λ (n : List ℕ). latestIn n (recordsOf h) ≡ some q) (w .name) l))
-
-    open-case : (l : Logged) → latestIn (p .what .name) (recordsOf h) ≡ some l → Stage p (recordsOf h) l → ⊥
-    open-case l f (begun s v) = let b = nth-below (p .what .name) (recordsOf h) (ordinalOf p) q is in omega arith
-    open-case l f (prepared s v b) =
-        let same : l ≡ q = some-same (sym (nth-latest (p .what .name) (recordsOf h) (ordinalOf p) l f s v) ∙ is) in
-        latest-q (f ∙ ap some same)
-
-    go : Standing (underOf h p) (recordsOf h) p → statusCode (q .content .status) ≡ underOf h p + 1
-    go (stillOpen z f) = found-with (OpenTransaction p (recordsOf h)) (latestIn (p .what .name) (recordsOf h)) f (λ l g b. absurd (open-case l g (b .stage)))
-    go (closed f) = is-found (Closes (underOf h p) p) is f .verdict
-
-pub under-verdict : (c : Catalogue) (h : History) → HistoryInvariant c h → Each (λ (q : Logged). Each (StandsUnder h (q .content .status)) (transaction q h)) (completedPrepares h)
-under-verdict c h t =
-    each-filter _ (isCompleted h) (recordsOf h)
-    (in-each _ (recordsOf h) (λ q i e.
-    let since = numberAfter (preparedBefore (q .content .name) (eventsBefore (q .number) h)) in
-    each-filter (StandsUnder h (q .content .status)) (λ (p : Entry). same (p .what .name) (q .content .name) && leb since (length (p .before)) && ltb (length (p .before)) (q .number)) (entriesOf h)
-    (in-each _ (entriesOf h) (λ p j s.
-    let within : InTransaction h q p = record {
-      name = same-true (p .what .name) (q .content .name) (search (and-left, and-right));
-      since = leb-true since (length (p .before)) (search (and-left, and-right));
-      before = ltb-true (length (p .before)) (q .number) (search (and-left, and-right));
-    } in
-    let code = prepare-code (q .content .status) (and-left (isPrepare (q .content .status)) _ e) in
-    over-verdict (statusCode (q .content .status)) (markerOver h p) (omega arith) (under-completed c h t q i e p j within ∙ ap (λ (n : ℕ). n + 1) (under-over h p))))))

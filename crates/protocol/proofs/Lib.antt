@@ -1,8 +1,19 @@
 -- Laws of the crate protocol.
 pub mod Lists
-pub mod Records
+pub mod Statuses
+pub mod Cuts
+pub mod TableOfRecords
+pub mod AfterPrepare
 pub mod ProducerIds
+pub mod Events
 pub mod Entries
+pub mod Ordinals
+pub mod Consequences
+pub mod WritesNothing
+pub mod RecordAppended
+pub mod EntryWritten
+pub mod MarkerWritten
 pub mod NextEvent
 pub mod MarkerOver
 pub mod Extends
+pub mod UnderVerdict

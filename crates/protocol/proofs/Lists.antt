@@ -6,7 +6,7 @@ use mathlib.Core.List.{List, [], _∷_}
 use mathlib.Core.Option.{Option, none, some}
 use native.Mathlib.Omega.{arith}
 use Rattle.numbers.proofs.Tests.{by-cases, not-both}
-use Rattle.search.specs.Search.{find, findLast, filter, Each, Found, IfFound}
+use Rattle.search.specs.Search.{countWhere, find, findLast, filter, Each, Found, IfFound}
 
 -- ---- tests
 
@@ -119,3 +119,19 @@ module _ {A : Type 0} (p : A → Bool) where
   pub last-fails : (l : List A) → Each (λ (x : A). p x ≡ false) l → findLast p l ≡ none
   last-fails [] h = unfold findLast in refl
   last-fails (x ∷ l) (h, hs) = last-none x l h (last-fails l hs)
+
+-- ---- counts
+
+module _ {A : Type 0} (p : A → Bool) where
+  count-nothing : (l : List A) → Each (λ (x : A). p x ≡ false) l → countWhere p l ≡ 0
+  unfolding countWhere
+  count-nothing [] h = refl
+  count-nothing (x ∷ l) (h, hs) = rw h (omega (arith, count-nothing l hs))
+
+  pub count-first : (x : A) (l : List A) → p x ≡ true → Each (λ (y : A). p y ≡ false) l → countWhere p (x ∷ l) ≡ 1
+  unfolding countWhere
+  count-first x l e h = rw e (omega (arith, count-nothing l h))
+
+  pub count-other : (x : A) (l : List A) → p x ≡ false → countWhere p (x ∷ l) ≡ countWhere p l
+  unfolding countWhere
+  count-other x l e = rw e (omega arith)

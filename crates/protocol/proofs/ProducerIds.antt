@@ -30,7 +30,8 @@ use Rattle.runs.specs.History.{Logged, contents, isOf}
 use Rattle.runs.specs.Demand3.{Ends}
 use Rattle.protocol.specs.RecordsOfName.{latestIn}
 use Rattle.protocol.proofs.Lists.{In, in-nil, in-cons, find-in}
-use Rattle.protocol.proofs.Records.{come-record, latest-name, table-latest, table-lacks}
+use Rattle.protocol.proofs.Cuts.{latest-name}
+use Rattle.protocol.proofs.TableOfRecords.{come-record, table-latest, table-lacks}
 
 -- ---- what a record that may come has for a pid
 

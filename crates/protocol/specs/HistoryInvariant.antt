@@ -61,18 +61,31 @@ AlreadyClosed kind records m p =
 
 -- ---- the clauses
 
+-- the entries of a prepare's transaction have its ordinal
+abbrev pub OfOrdinal : History → Logged → Type 0
+OfOrdinal h q =
+    isPrepare (q .content .status) ≡ true → Each (λ (p : Entry). InTransaction h q p → nthPrepare (p .what .name) (ordinalOf p) (recordsOf h) ≡ some q) (entriesOf h)
+
+-- an order or a marker was for a flushed prepare, its name's latest record then
+abbrev pub ForPrepare : WithBefore Order → Type 0
+ForPrepare p = Found (IsFor (p .what) (p .before)) (recordNumbered (p .what .for) (p .before))
+
+-- what a marker is for came earlier and, where it stands, is a prepare of its producer
+pub record MarksPrepare (h : History) (m : Order) : Type 0 where
+  pub earlier : m .for < length h
+  pub marked : Each (λ (r : Logged). r .number ≡ m .for → Marks m r) (recordsOf h)
+
 pub record HistoryInvariant (c : Catalogue) (h : History) : Type 0 where
-  -- the records
+  -- the records may come one after the other, each ends where its frame does, and their numbers fall from the newest to the oldest
   pub come : allCome c emptyTable (contents (recordsOf h)) ≡ true
   pub ends : Ends c (recordsOf h)
   pub numbered : NumberedBelow (length h) (recordsOf h)
-  -- the entries
+  -- each entry was written for a flushed BEGIN; at every cut it is open, or it stands under its prepare's verdict
   pub entitled : Each (λ (p : Entry). Found (Entitled (p .what) (p .before)) (latestOf (p .what .name) (p .before))) (entriesOf h)
   pub standing : AtEveryCut h (λ records. Each (λ (p : Entry). Standing (underOf h p) records p) (entriesOf h))
-  pub by-ordinal : Each (λ (q : Logged). isPrepare (q .content .status) ≡ true
-      → Each (λ (p : Entry). InTransaction h q p → nthPrepare (p .what .name) (ordinalOf p) (recordsOf h) ≡ some q) (entriesOf h)) (recordsOf h)
-  -- the orders and markers
-  pub for-prepare : Each (λ (p : WithBefore Order). Found (IsFor (p .what) (p .before)) (recordNumbered (p .what .for) (p .before))) (collectWithBefore ordersIn h)
-  pub marks : Each (λ (m : Order). (m .for < length h) × Each (λ (r : Logged). r .number ≡ m .for → Marks m r) (recordsOf h)) (collect markersIn h)
+  pub by-ordinal : Each (λ (q : Logged). OfOrdinal h q) (recordsOf h)
+  -- the orders and markers; a partition holds one marker for each prepare
+  pub for-prepare : Each ForPrepare (collectWithBefore ordersIn h)
+  pub marks : Each (MarksPrepare h) (collect markersIn h)
   pub already-closed : AtEveryCut h (λ records. Each (λ (m : Order). Each (λ (p : Entry). AlreadyClosed (underOf h p) records m p) (entriesOf h)) (collect markersIn h))
   pub one-marker : Each (λ (m : Order). markersFor m h ≡ 1) (collect markersIn h)

@@ -49,7 +49,8 @@ use Rattle.runs.proofs.Cases.{withOrder, while-up}
 use Rattle.runs.proofs.Admitted.{step-own}
 use Rattle.protocol.specs.HistoryInvariant.{HistoryInvariant}
 use Rattle.protocol.proofs.Lists.{In, found-with, find-in, either}
-use Rattle.protocol.proofs.Records.{come-record, After, latest, completed as isOver, after-prepare}
+use Rattle.protocol.proofs.TableOfRecords.{come-record}
+use Rattle.protocol.proofs.AfterPrepare.{After, latest, completed as isOver, after-prepare}
 use Rattle.protocol.proofs.Extends.{FlushedIn, flushed-stays, each-flushed-prepare, extends-keeps}
 use Rattle.agreement.proofs.Invariant.{UnderWay, CarryingSide, Invariant}
 use Rattle.agreement.proofs.FlushedFirst.{proper}

@@ -12,7 +12,6 @@ use Rattle.numbers.proofs.Tests.{not-both, and-left, and-right}
 use Rattle.bits.specs.Bits.{count}
 use Rattle.bits.proofs.Laws.{count-zero}
 use Rattle.catalogue.specs.Catalogue.{parse}
-use Rattle.record.specs.Record.{idle}
 use Rattle.record.proofs.Bounds.{some-joined, well-formed-parts}
 use Rattle.row.specs.Row.{isPrepare, outstanding}
 use Rattle.row.specs.declared.Row.{Row}
@@ -24,9 +23,10 @@ use Rattle.runs.specs.Demand3.{Keeps, Kept, Undisturbed, CompletesInTime, Promi
 use Rattle.runs.proofs.Admitted.{step-own}
 use Rattle.runs.proofs.Epochs.{Epochs, start-epochs, run-epochs}
 use Rattle.protocol.specs.HistoryInvariant.{HistoryInvariant}
-use Rattle.protocol.proofs.Lists.{In, found-is, in-each, each-filter, either}
-use Rattle.protocol.proofs.Records.{come-record, latest-last}
-use Rattle.protocol.proofs.NextEvent.{prepare-idle}
+use Rattle.protocol.proofs.Lists.{In, found-is, in-each, each-filter}
+use Rattle.protocol.proofs.Statuses.{prepare-busy}
+use Rattle.protocol.proofs.TableOfRecords.{come-record}
+use Rattle.protocol.proofs.AfterPrepare.{latest-last}
 use Rattle.protocol.proofs.Extends.{FlushedIn, flushed-stays, each-flushed-prepare, kept-stands, kept-next, extends-keeps}
 use Rattle.agreement.proofs.Invariant.{Invariant}
 use Rattle.agreement.proofs.LiveTable.{live-latest}
@@ -85,8 +85,7 @@ module _ (w : World) (i : Invariant w) (p : Logged) (there : In p (recordsOf (w 
 
   joins-some : 0 < p .content .joined
   joins-some =
-      let busy : idle (p .content .status) ≡ false = either (idle (p .content .status)) (λ e. absurd (prepare-idle (p .content .status) prepares e)) (λ e. e) in
-      some-joined (p .content .status) (p .content .joined) busy (well-formed-parts (catalogueOf w) (p .content) (come-record (catalogueOf w) (recordsOf h) (i .of-history .come) p there .0) .joined-status)
+      some-joined (p .content .status) (p .content .joined) (prepare-busy (p .content .status) prepares) (well-formed-parts (catalogueOf w) (p .content) (come-record (catalogueOf w) (recordsOf h) (i .of-history .come) p there .0) .joined-status)
 
   -- while it is not completed some partition is left
   some-left : latestOf (p .content .name) v ≡ some p → 1 ≤ leftOf p (run items w .phase)

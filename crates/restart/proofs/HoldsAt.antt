@@ -33,16 +33,18 @@ use Rattle.partition.specs.Limits.{entryWords}
 use Rattle.partition.specs.Partition.{Action as PartitionAction}
 use Rattle.partition.specs.Read.{standsUnder}
 use Rattle.partition.proofs.MarkerCases.{marker-accepted}
-use Rattle.runs.specs.History.{Order, recordAppended, logFlushed, logCut, logOpened, orderGiven, markerWritten, orderCarried, entryWritten, History, ordersIn, collect, WithBefore, collectWithBefore, Logged, recordsOf, contents, endOf, flushedOf, isFlushed, isFlushedPrepare, latestOf, nextOf, recordNumbered, isCompleted, markerOver, wordsOf}
+use Rattle.runs.specs.History.{Order, recordAppended, logFlushed, logCut, logOpened, orderGiven, markerWritten, orderCarried, entryWritten, History, ordersIn, collect, collectWithBefore, Logged, recordsOf, contents, endOf, flushedOf, isFlushed, isFlushedPrepare, latestOf, nextOf, recordNumbered, isCompleted, markerOver, wordsOf}
 use Rattle.runs.specs.World.{Leader, openLeader, Phase, up, down, Carrying, nothing, toDeliver, toAcknowledge, World, catalogueOf, leaderAt}
 use Rattle.runs.specs.InEveryRun.{kindOf}
 use Rattle.runs.specs.Demand3.{Completes, LogAgrees, SameLengths, WordsAgree, IsFor, OfLastOpening, UnderItsVerdict, GivenUpTo, OrdersGiven, AckDone, CarryingAccepted, Restarts, HoldsAt}
 use Rattle.protocol.specs.Entries.{Entry, entriesOf}
+use Rattle.protocol.specs.HistoryInvariant.{ForPrepare}
 use Rattle.protocol.proofs.Lists.{In, found-with, each-in, in-each, each-filter}
-use Rattle.protocol.proofs.Records.{After, latest, completed, after-prepare, come-record}
-use Rattle.protocol.proofs.NextEvent.{prepare-code}
+use Rattle.protocol.proofs.Statuses.{prepare-code}
+use Rattle.protocol.proofs.TableOfRecords.{come-record}
+use Rattle.protocol.proofs.AfterPrepare.{After, latest, completed, after-prepare}
 use Rattle.protocol.proofs.MarkerOver.{under-over}
-use Rattle.protocol.proofs.Extends.{under-verdict}
+use Rattle.protocol.proofs.UnderVerdict.{under-verdict}
 use Rattle.agreement.proofs.Invariant.{LogSide, UnderWay, CarryingSide, Invariant}
 use Rattle.agreement.proofs.LiveTable.{live-latest, live-holds}
 use Rattle.agreement.proofs.LogSteps.{up-agrees, up-lengths, down-agrees, down-restarts}
@@ -91,9 +93,6 @@ words-agree w i =
 -- ---- under its verdict
 
 -- every marker has a verdict
-abbrev ForPrepare : WithBefore Order → Type 0
-ForPrepare p = Found (IsFor (p .what) (p .before)) (recordNumbered (p .what .for) (p .before))
-
 fit-one : (o : Order) (h : History) → Found (IsFor o h) (recordNumbered (o .for) h) → o .verdict ≤ 1
 fit-one o h f = found-with (IsFor o h) (recordNumbered (o .for) h) f (λ q e g. let b = prepare-code (q .content .status) (g .prepare) in omega (arith, g .verdict))
 

@@ -16,18 +16,19 @@ use Rattle.answers.specs.Refusals.{firstRefusal}
 use Rattle.answers.specs.Answers.{accepted}
 use Rattle.answers.proofs.Laws.{none-is}
 use Rattle.partition.specs.Limits.{entryWords}
-use Rattle.partition.specs.Partition.{admits, producerAt, noProducer, kindAt, payloadAt, oldest, stableEnd}
+use Rattle.partition.specs.Partition.{admits, noProducer, kindAt, payloadAt, oldest, stableEnd}
 use Rattle.partition.specs.Read.{standsUnder, committed, copy, readTests, copied, readAnswer, readOut}
 use Rattle.partition.specs.declared.Producer.{Producer}
 use Rattle.partition.proofs.Reserve.{admits-length}
-use Rattle.runs.specs.History.{Order, Produced, recordAppended, logFlushed, logCut, logOpened, orderGiven, markerWritten, orderCarried, entryWritten, History, producedIn, collect, collectWithBefore, endingBy, recordsOf, flushedOf, markerOver, wordsOf}
+use Rattle.runs.specs.History.{Order, Produced, recordAppended, logFlushed, logCut, logOpened, orderGiven, markerWritten, orderCarried, entryWritten, History, producedIn, collect, collectWithBefore, flushedOf, markerOver, wordsOf}
 use Rattle.runs.specs.World.{Leader, openLeader, World, catalogueOf, leaderAt, start, run}
 use Rattle.runs.specs.InEveryRun.{entriesBetween, committedBetween, offsets, payloads, ReadsFrom, ReadsCommitted, InEveryRun}
 use Rattle.runs.proofs.Admitted.{admits-exactly}
 use Rattle.protocol.specs.Entries.{Entry, entriesOf, underOf}
-use Rattle.protocol.proofs.Lists.{In, here, each-in, in-each, each-filter, either}
+use Rattle.protocol.proofs.Lists.{In, here, in-each, each-filter, either}
 use Rattle.protocol.proofs.MarkerOver.{under-over, over-commit, over-some}
-use Rattle.agreement.proofs.Invariant.{placeIn, Owns, Invariant}
+use Rattle.agreement.proofs.Invariant.{Invariant}
+use Rattle.agreement.proofs.Rows.{open-owns}
 use Rattle.agreement.proofs.Words.{words-next, words-same}
 use Rattle.agreement.proofs.Produces.{own-at, words-length}
 use Rattle.agreement.proofs.Steps.{always}
@@ -440,7 +441,7 @@ module _ (w : World) (i : Invariant w) (x : ℕ) where
           let h = w .history in
           let at : d .what .position ≡ x = eqb-true (d .what .position) x (search (and-left, and-right)) in
           let low : d .what .offset < stable = ltb-true (d .what .offset) stable (search (and-left, and-right)) in
-          let owns = each-in (λ (e : Entry). e .what .position ≡ x → underOf h e ≡ 0 → Owns (producerAt (leader .partition) (placeIn (catalogueOf w) (endingBy (flushedOf h) (recordsOf h)) (e .what .name))) e) (entriesOf h) d (i .leaders x .rows .entry-row (flushedOf h) (omega arith)) j at z in
+          let owns = open-owns (catalogueOf w) h x (leader .partition) (i .leaders x .rows) (flushedOf h) (omega arith) d j at z in
           let row = stable-row (leader .partition .end) (leader .partition .producers) _ (owns .ongoing) in
           omega (arith, owns .first)
 

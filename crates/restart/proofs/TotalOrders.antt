@@ -30,7 +30,8 @@ use Rattle.runs.specs.World.{Phase, up, down}
 use Rattle.protocol.specs.RecordsOfName.{latestIn}
 use Rattle.protocol.specs.HistoryInvariant.{HistoryInvariant}
 use Rattle.protocol.proofs.Lists.{find-miss, last-there, last-here}
-use Rattle.protocol.proofs.Records.{isAfter, latest-last, is-of}
+use Rattle.protocol.proofs.Cuts.{is-of}
+use Rattle.protocol.proofs.AfterPrepare.{isAfter, latest-last}
 use Rattle.agreement.proofs.Invariant.{UpLog, placeIn}
 use Rattle.agreement.proofs.LiveTable.{live-place, live-latest}
 use Rattle.agreement.proofs.Tables.{place-kept}

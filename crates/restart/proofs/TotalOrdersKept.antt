@@ -43,20 +43,22 @@ use Rattle.coordinator.specs.Calls.{CoordinatorCall, initCall, addCall, endCall
 use Rattle.writer.specs.Writer.{openingReply}
 use Rattle.writer.proofs.Decisions.{Decided, byCall}
 use Rattle.writer.proofs.Lawful.{Lawful, decided-lawful}
-use Rattle.runs.specs.History.{Order, Produced, Event, recordAppended, logFlushed, logOpened, orderGiven, markerWritten, orderCarried, entryWritten, History, carriedIn, collect, Logged, recordsOf, latestOf, nextOf, listed, isCompleted, carriedFor}
+use Rattle.runs.specs.History.{Order, Event, recordAppended, logFlushed, logOpened, orderGiven, markerWritten, orderCarried, entryWritten, History, carriedIn, collect, Logged, recordsOf, latestOf, nextOf, listed, isCompleted, carriedFor}
 use Rattle.runs.specs.World.{Phase, up, down, Carrying, nothing, toAcknowledge, World, catalogueOf, leaderAt, own, another, Item, call, callOrder, callProduce, callRead, deliver, acknowledge, cut, reopen, isAck, inLists, withEvent, coordinatorElsewhere, lentPartition, leaderDoes, historyAfter, historyWritten, coordinatorDoes, next, step}
 use Rattle.runs.specs.Demand3.{Undisturbed}
 use Rattle.runs.proofs.Leaves.{flush-elsewhere}
 use Rattle.runs.proofs.Cases.{step-cases, while-up-cases, lent-cases, leader-cases, deliverable-cases, acknowledgeable-cases, read-cases, reopened-cases, answered-cases}
 use Rattle.protocol.specs.HistoryInvariant.{HistoryInvariant}
 use Rattle.protocol.proofs.Lists.{In, each-in, some-same, find-passes, either}
-use Rattle.protocol.proofs.Records.{numbered-same, numbered-below, complete-code, come-record}
-use Rattle.protocol.proofs.Entries.{collect-same}
+use Rattle.protocol.proofs.Statuses.{complete-code}
+use Rattle.protocol.proofs.Cuts.{numbered-same, numbered-below}
+use Rattle.protocol.proofs.TableOfRecords.{come-record}
+use Rattle.protocol.proofs.Events.{collect-same, marker-records, entry-records, given-records, opened-records, carried-records, flush-records, appended-records, newRecord}
+use Rattle.protocol.proofs.Consequences.{for-latest}
 use Rattle.agreement.proofs.Invariant.{UpLog, LogSide, placeIn, UnderWay, CarryingSide, Invariant}
 use Rattle.agreement.proofs.FlushedFirst.{FlushedFirst, call-flushed-first, proper}
 use Rattle.agreement.proofs.LiveTable.{live-ready, live-place, live-latest}
 use Rattle.agreement.proofs.Tables.{place-name}
-use Rattle.agreement.proofs.RowsAfterMarker.{for-latest}
 use Rattle.agreement.proofs.Preserves.{log-of, acks-of}
 use Rattle.agreement.proofs.Delivers.{place-below}
 use Rattle.agreement.proofs.Acknowledges.{it, row-is, ack-passes, row-joins, joined-small, position-below}
@@ -89,10 +91,7 @@ module _ (p : Logged) (prepares : isPrepare (p .content .status) ≡ true) (n : 
         end = logEnd s + length (rowFrame s row)
 
         new : Logged
-        new = record { number = length h; content = recordOf row; end = end }
-
-        records : recordsOf (recordAppended (recordOf row) end ∷ h) ≡ new ∷ recordsOf h
-        records = unfold recordsOf in refl
+        new = newRecord h (recordOf row) end
 
         carried : collect carriedIn (recordAppended (recordOf row) end ∷ h) ≡ collect carriedIn h
         carried = collect-same carriedIn (recordAppended (recordOf row) end) h refl
@@ -103,15 +102,15 @@ module _ (p : Logged) (prepares : isPrepare (p .content .status) ≡ true) (n : 
             omega (arith, come-place (unacknowledged (s .table)) (recordOf row) (l .comes), proper s (live-ready c (w .log) s h (log-of w i s u) (i .of-history)) .all)
 
         go : TotalOrders p n (up s) h → TotalOrders p n (up (appended s place row)) (recordAppended (recordOf row) end ∷ h)
-        go (over e f) = total-over p new n (up (appended s place row)) h (recordAppended (recordOf row) end ∷ h) records carried e f
+        go (over e f) = total-over p new n (up (appended s place row)) h (recordAppended (recordOf row) end ∷ h) (appended-records h (recordOf row) end .records) carried e f
         go (waits e f) =
             let d : row .name ≡ p .content .name → ⊥ = λ z.
             let is : isPrepare (rowAt (s .table) (placeOf (s .table) (row .name)) .status) ≡ true = ap (λ (m : List ℕ). isPrepare (rowAt (s .table) (placeOf (s .table) m) .status)) z ∙ ap (λ (r : Row). isPrepare (r .status)) (live-latest c (w .log) s h (log-of w i s u) (i .of-history) (p .content .name) p e) ∙ prepares in
             not-both (k .unprepared) is in
-            total-other p new n (up s) (up (appended s place row)) h (recordAppended (recordOf row) end ∷ h) records d carried
-            (left-appended c (w .log) _ s h place row (log-of w i s u) (i .of-history) (recordAppended (recordOf row) end ∷ h) x y new records inside p e d d) (waits e f)
+            total-other p new n (up s) (up (appended s place row)) h (recordAppended (recordOf row) end ∷ h) (appended-records h (recordOf row) end .records) d carried
+            (left-appended c (w .log) _ s h place row (log-of w i s u) (i .of-history) (recordAppended (recordOf row) end ∷ h) x y new (appended-records h (recordOf row) end .records) inside p e d d) (waits e f)
     acted (acknowledgeAt place position) l k x y = absurd k
-    acted (flushTo m) l k x y = total-same p n (up s) (up (after (flushTo m) s)) h (logFlushed m ∷ h) (unfold recordsOf in refl) (collect-same carriedIn (logFlushed m) h refl) refl now
+    acted (flushTo m) l k x y = total-same p n (up s) (up (after (flushTo m) s)) h (logFlushed m ∷ h) (flush-records h m) (collect-same carriedIn (logFlushed m) h refl) refl now
 
     acts : (a : Action) → Decided s (length (w .log)) a → FlushedFirst s a → Counts (coordinatorDoes a s w)
     acts a d k j = acted a (decided-lawful s (live-ready c (w .log) s h (log-of w i s u) (i .of-history)) (length (w .log)) a d) k (j .log-side) (j .of-history)
@@ -135,7 +134,7 @@ module _ (p : Logged) (prepares : isPrepare (p .content .status) ≡ true) (n : 
       same-prepare e = numbered-same (length h) (recordsOf h) (i .of-history .numbered) r p (it w i s u o way .there) stands (number-is ∙ e)
 
       records : recordsOf v ≡ recordsOf h
-      records = unfold recordsOf in refl
+      records = carried-records h o .records
 
       -- where the prepare's row is
       place-is : (name : List ℕ) → placeOf (s .table) name ≡ placeIn c (recordsOf h) name
@@ -183,16 +182,16 @@ module _ (p : Logged) (prepares : isPrepare (p .content .status) ≡ true) (n : 
           end = logEnd s + length (rowFrame s done)
 
           new : Logged
-          new = record { number = length v; content = recordOf done; end = end }
-
-          all : recordsOf (recordAppended (recordOf done) end ∷ v) ≡ new ∷ recordsOf h
-          all = (unfold recordsOf in refl)
+          new = newRecord v (recordOf done) end
 
           carried : collect carriedIn (recordAppended (recordOf done) end ∷ v) ≡ collect carriedIn v
           carried = collect-same carriedIn (recordAppended (recordOf done) end) v refl
 
           to-v : recordsOf (recordAppended (recordOf done) end ∷ v) ≡ new ∷ recordsOf v
-          to-v = all ∙ ap (λ (l : List Logged). new ∷ l) (sym records)
+          to-v = appended-records v (recordOf done) end .records
+
+          all : recordsOf (recordAppended (recordOf done) end ∷ v) ≡ new ∷ recordsOf h
+          all = to-v ∙ ap (λ (l : List Logged). new ∷ l) records
 
           go : TotalOrders p n (up s) h → Dec (o .for ≡ p .number) → TotalOrders p n (up (appended s (o .place) done)) (recordAppended (recordOf done) end ∷ v)
           go (over e f) q = let d = not-over e in total-over p new n (up (appended s (o .place) done)) v (recordAppended (recordOf done) end ∷ v) to-v carried (rw records e) (same-count d ∙ f)
@@ -249,18 +248,6 @@ module _ (p : Logged) (prepares : isPrepare (p .content .status) ≡ true) (n : 
   same-world : Counts w
   same-world j = t
 
-  records-entry : (e : Produced) → recordsOf (entryWritten e ∷ h) ≡ recordsOf h
-  unfolding recordsOf
-  records-entry e = refl
-
-  records-marker : (o : Order) → recordsOf (markerWritten o ∷ h) ≡ recordsOf h
-  unfolding recordsOf
-  records-marker o = refl
-
-  records-given : (o : Order) → recordsOf (orderGiven o ∷ h) ≡ recordsOf h
-  unfolding recordsOf
-  records-given o = refl
-
   written-records : (a : PartitionAction) (e : Event) → recordsOf (e ∷ h) ≡ recordsOf h → recordsOf (historyWritten a e h) ≡ recordsOf h
   written-records keepPartition e r = refl
   written-records (note coordinator place q) e r = refl
@@ -284,7 +271,7 @@ module _ (p : Logged) (prepares : isPrepare (p .content .status) ≡ true) (n : 
       s = opening (w .text) (w .log) m epoch first last .state
 
       records : recordsOf (v .history) ≡ recordsOf h
-      records = ap recordsOf f ∙ (unfold recordsOf in refl)
+      records = ap recordsOf f ∙ opened-records h epoch
 
       carried : collect carriedIn (v .history) ≡ collect carriedIn h
       carried = ap (collect carriedIn) f ∙ collect-same carriedIn (logOpened epoch) h refl
@@ -292,15 +279,15 @@ module _ (p : Logged) (prepares : isPrepare (p .content .status) ≡ true) (n : 
       log-up : UpLog c (v .log) s (v .history)
       log-up = subst (λ (y : List ℕ). UpLog (parse y .catalogue) (v .log) s (v .history)) g (subst (λ (y : Phase). LogSide (catalogueOf v) (v .log) y (v .history)) e (j .log-side))
 
-      told-up : HistoryInvariant c (v .history)
-      told-up = subst (λ (y : List ℕ). HistoryInvariant (parse y .catalogue) (v .history)) g (j .of-history)
+      invariant-up : HistoryInvariant c (v .history)
+      invariant-up = subst (λ (y : List ℕ). HistoryInvariant (parse y .catalogue) (v .history)) g (j .of-history)
 
       go : TotalOrders p n (down m before) h → TotalOrders p n (v .phase) (v .history)
       go (over a b) = over (rw records a) (rw carried b)
       go (waits a b) =
           let a′ : latestOf (p .content .name) (v .history) ≡ some p = rw records a in
           let k = placeOf (s .table) (p .content .name) in
-          let row-is = live-latest c (v .log) s (v .history) log-up told-up (p .content .name) p a′ in
+          let row-is = live-latest c (v .log) s (v .history) log-up invariant-up (p .content .name) p a′ in
           let none-acked = opening-valid (w .text) (w .log) m epoch first last accepted .0 .none-acknowledged k in
           let joined : rowAt (s .table) k .joined ≡ p .content .joined = ap (λ (y : Row). y .joined) row-is in
           let small : p .content .joined < 2 ^ 64 = well-formed-parts c (p .content) (come-record c (recordsOf h) (i .of-history .come) p stands .0) .joined-below in
@@ -332,19 +319,19 @@ module _ (p : Logged) (prepares : isPrepare (p .content .status) ≡ true) (n : 
   next-counts (callOrder set) so d =
       while-up-cases Counts w same-world _
       (λ s u. answered-cases Counts w s (order s set) (resting _ refl refl refl)
-      (λ place pid epoch verdict position coordinator e. resting _ refl (records-given _) (collect-same carriedIn (orderGiven _) h refl)))
+      (λ place pid epoch verdict position coordinator e. resting _ refl (given-records h _ .records) (collect-same carriedIn (orderGiven _) h refl)))
   next-counts (callProduce lent other name pid epoch position sequence payload) so d =
       while-up-cases Counts w same-world _
       (λ s u. leader-cases Counts w same-world lent _ _ _ _
       (λ o. let x = lentPartition s position other in
-      led x (produce s (leaderAt w x .partition) (length (leaderAt w x .words)) name pid epoch position sequence payload .action) (entryWritten _) nothing (records-entry _) refl)
+      led x (produce s (leaderAt w x .partition) (length (leaderAt w x .words)) name pid epoch position sequence payload .action) (entryWritten _) nothing (entry-records h _ .records) refl)
       (λ m e. resting _ refl refl refl))
   next-counts (callRead lent x from out) so d = while-up-cases Counts w same-world _ (λ s u. read-cases Counts w same-world lent x (resting _ refl refl refl))
   next-counts (deliver lent m) so d =
       while-up-cases Counts w same-world _
       (λ s u. deliverable-cases Counts w same-world m _
       (λ o e. leader-cases Counts w same-world lent (o .position) _ _ _ (λ l. let y = leaderAt w (o .position) in
-      led (o .position) (marker (y .partition) (length (y .words)) (o .place) (o .pid) (o .epoch) (o .verdict) (o .coordinator) .action) (markerWritten o) _ (records-marker o) refl) (λ k f. resting _ refl refl refl)))
+      led (o .position) (marker (y .partition) (length (y .words)) (o .place) (o .pid) (o .epoch) (o .verdict) (o .coordinator) .action) (markerWritten o) _ (marker-records h o .records) refl) (λ k f. resting _ refl refl refl)))
   next-counts (acknowledge own m) so d =
       while-up-cases Counts w same-world _ (λ s u. acknowledgeable-cases Counts w same-world m _ (λ o e. acked s u o (carrying-of s u (toAcknowledge m o) e .0)))
   next-counts (acknowledge (another slice) m) so d = absurd d
