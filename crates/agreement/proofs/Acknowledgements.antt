@@ -20,7 +20,7 @@ use Rattle.record.specs.declared.Record.{Record}
 use Rattle.record.proofs.Bounds.{some-joined, well-formed-parts}
 use Rattle.row.specs.Row.{isPrepare, outstanding, recordOf, withEnd, withAcknowledged}
 use Rattle.row.specs.declared.Row.{Row}
-use Rattle.table.specs.Table.{emptyTable, rowAt, apply, withRow}
+use Rattle.table.specs.Table.{emptyTable, rowAt}
 use Rattle.table.proofs.Laws.{apply-same, apply-other, with-same, with-other}
 use Rattle.log_reader.specs.Records.{allCome}
 use Rattle.log_reader.proofs.RecordLaws.{come-newest}
@@ -30,7 +30,7 @@ use Rattle.runs.specs.History.{Order, Produced, Event, recordAppended, markerWr
 use Rattle.protocol.specs.Entries.{Entry, entriesOf, kindIn, underOf}
 use Rattle.protocol.specs.HistoryInvariant.{HistoryInvariant}
 use Rattle.protocol.specs.NextEvent.{Appendable}
-use Rattle.protocol.proofs.Lists.{in-each, either}
+use Rattle.protocol.proofs.Lists.{in-each, either, but-at}
 use Rattle.protocol.proofs.Statuses.{prepare-busy}
 use Rattle.protocol.proofs.Events.{entry-before, newRecord, appended-records, more-entries, entry-records, marker-records, same-entries}
 use Rattle.protocol.proofs.Entries.{under-next, first-open, under-each}
@@ -104,41 +104,32 @@ fresh-waits c row f a p z =
     (subst (λ (n : ℕ). member n (lowest (row .joined)) ≡ true) z
     (left-is 64 (row .joined) (row .acknowledged) (w .joined-below) (rw a (omega arith)) (lowest (row .joined)) (member-is (row .joined) (lowest (row .joined)) m) none-acked))
 
--- after a record is appended
+-- one row changes: what is acknowledged there is closed, and it waits if it is a prepare
+acks-changed : (c : Catalogue) (h : History) (s u : Coordinator) (place : ℕ) (row : Row) → rowAt (u .table) place ≡ row → ((k : ℕ) → k ≢ place → rowAt (u .table) k ≡ rowAt (s .table) k)
+    → ((x : ℕ) → member (row .acknowledged) x ≡ true → (isPrepare (row .status) ≡ true) × NoneOpen c h (recordsOf h) x place) → row .acknowledged < 2 ^ 64
+    → (isPrepare (row .status) ≡ true → outstanding row ≡ 0 → ⊥) → AcksAgree c h s → AcksAgree c h u
+acks-changed c h s u place row here others closed small waiting a =
+    record {
+      closed = changed (λ k y. (x : ℕ) → member (y .acknowledged) x ≡ true → (isPrepare (y .status) ≡ true) × NoneOpen c h (recordsOf h) x k) closed (a .closed);
+      small = changed (λ k y. y .acknowledged < 2 ^ 64) small (a .small);
+      waiting = changed (λ k y. isPrepare (y .status) ≡ true → outstanding y ≡ 0 → ⊥) waiting (a .waiting);
+    }
+  where
+    changed : (P : ℕ → Row → Type 0) → P place row → ((k : ℕ) → P k (rowAt (s .table) k)) → (k : ℕ) → P k (rowAt (u .table) k)
+    changed P = but-at (rowAt (s .table)) (rowAt (u .table)) place row here others P
+
 module _ (c : Catalogue) (h : History) (t : HistoryInvariant c h) (s : Coordinator) (a : AcksAgree c h s) where
+  -- after a record is appended
   pub acks-appended : (place : ℕ) (row : Row) → place < length (s .table .rows) → row .acknowledged ≡ 0 → wellFormed c (recordOf row) ≡ true
       → Appendable c h (recordOf row) (logEnd s + length (rowFrame s row))
       → AcksAgree c (recordAppended (recordOf row) (logEnd s + length (rowFrame s row)) ∷ h) (appended s place row)
   unfolding appended
   acks-appended place row inside none-acked formed w =
-      record { closed = λ k x m. closed k x (ℕ-discrete k place) m; small = λ k. small k (ℕ-discrete k place); waiting = λ k p z. waiting k (ℕ-discrete k place) p z }
-    where
-      end : ℕ
-      end = logEnd s + length (rowFrame s row)
-
-      table-there : (k : ℕ) → k ≢ place → rowAt (apply (s .table) place (withEnd row end)) k ≡ rowAt (s .table) k
-      table-there = apply-other (s .table) place (withEnd row end)
-
-      table-here : rowAt (apply (s .table) place (withEnd row end)) place ≡ withEnd row end
-      table-here = apply-same (s .table) place (withEnd row end) inside
-
-      closed : (k x : ℕ) → Dec (k ≡ place) → member (rowAt (apply (s .table) place (withEnd row end)) k .acknowledged) x ≡ true
-          → (isPrepare (rowAt (apply (s .table) place (withEnd row end)) k .status) ≡ true) × NoneOpen c (recordAppended (recordOf row) end ∷ h) (recordsOf (recordAppended (recordOf row) end ∷ h)) x k
-      closed k x (yes e) m =
-          absurd (member-nothing x (subst (λ (n : ℕ). member n x ≡ true) (ap (λ (j : ℕ). rowAt (apply (s .table) place (withEnd row end)) j .acknowledged) e ∙ ap (λ (r : Row). r .acknowledged) table-here ∙ none-acked) m))
-      closed k x (no n) m =
-          let (p, o) = a .closed k x (sym (ap (λ (r : Row). member (r .acknowledged) x) (table-there k n)) ∙ m) in
-          (ap (λ (r : Row). isPrepare (r .status)) (table-there k n) ∙ p, none-open-appended c h t (recordOf row) end w x k o)
-
-      small : (k : ℕ) → Dec (k ≡ place) → rowAt (apply (s .table) place (withEnd row end)) k .acknowledged < 2 ^ 64
-      small k (yes e) = let z = ap (λ (j : ℕ). rowAt (apply (s .table) place (withEnd row end)) j .acknowledged) e ∙ ap (λ (r : Row). r .acknowledged) table-here ∙ none-acked in omega arith
-      small k (no n) = rw (table-there k n) (a .small k)
-
-      waiting : (k : ℕ) → Dec (k ≡ place) → isPrepare (rowAt (apply (s .table) place (withEnd row end)) k .status) ≡ true → outstanding (rowAt (apply (s .table) place (withEnd row end)) k) ≡ 0 → ⊥
-      waiting k (yes e) p z =
-          let is = ap (rowAt (apply (s .table) place (withEnd row end))) e ∙ table-here in
-          fresh-waits c row formed none-acked (sym (ap (λ (r : Row). isPrepare (r .status)) is) ∙ p) (sym (ap outstanding is) ∙ z)
-      waiting k (no n) p z = a .waiting k (sym (ap (λ (r : Row). isPrepare (r .status)) (table-there k n)) ∙ p) (sym (ap outstanding (table-there k n)) ∙ z)
+      let end = logEnd s + length (rowFrame s row) in
+      let event = recordAppended (recordOf row) end in
+      acks-changed c (event ∷ h) s (appended s place row) place (withEnd row end) (apply-same (s .table) place (withEnd row end) inside) (apply-other (s .table) place (withEnd row end))
+      (λ x m. absurd (member-nothing x (subst (λ (n : ℕ). member n x ≡ true) none-acked m))) (omega (arith, none-acked)) (fresh-waits c row formed none-acked)
+      (acks-kept c h s event (λ x k m n. none-open-appended c h t (recordOf row) end w x k n) a)
 
   -- after a position is acknowledged that is closed, and others wait
   pub acks-noted : (place position : ℕ) → place < length (s .table .rows) → position < 64 → isPrepare (rowAt (s .table) place .status) ≡ true → rowAt (s .table) place .joined < 2 ^ 64
@@ -146,7 +137,8 @@ module _ (c : Catalogue) (h : History) (t : HistoryInvariant c h) (s : Coordinat
       → NoneOpen c h (recordsOf h) position place → AcksAgree c h (acknowledged s place position)
   unfolding acknowledged
   acks-noted place position inside below prepares small-joined joins new more-left none-open =
-      record { closed = λ k x m. closed k x (ℕ-discrete k place) m; small = λ k. small k (ℕ-discrete k place); waiting = λ k p z. waiting k (ℕ-discrete k place) p z }
+      acks-changed c h s (acknowledged s place position) place noted (with-same (s .table) place noted inside) (with-other (s .table) place noted) (λ x m. (prepares, closes x (ℕ-discrete x position) m))
+      (insert-below 64 (old .acknowledged) position (a .small place) below) (λ p z. waiting z) a
     where
       old : Row
       old = rowAt (s .table) place
@@ -154,38 +146,15 @@ module _ (c : Catalogue) (h : History) (t : HistoryInvariant c h) (s : Coordinat
       noted : Row
       noted = withAcknowledged old (insert (old .acknowledged) position)
 
-      table-there : (k : ℕ) → k ≢ place → rowAt (withRow (s .table) place noted) k ≡ rowAt (s .table) k
-      table-there = with-other (s .table) place noted
+      closes : (x : ℕ) → Dec (x ≡ position) → member (insert (old .acknowledged) position) x ≡ true → NoneOpen c h (recordsOf h) x place
+      closes x (yes i) m = subst (λ (y : ℕ). NoneOpen c h (recordsOf h) y place) (sym i) none-open
+      closes x (no n) m = a .closed place x (member-is (old .acknowledged) x (sym (insert-other (old .acknowledged) position x n) ∙ member-true (insert (old .acknowledged) position) x m)) .1
 
-      table-here : rowAt (withRow (s .table) place noted) place ≡ noted
-      table-here = with-same (s .table) place noted inside
-
-      closed : (k x : ℕ) → Dec (k ≡ place) → member (rowAt (withRow (s .table) place noted) k .acknowledged) x ≡ true
-          → (isPrepare (rowAt (withRow (s .table) place noted) k .status) ≡ true) × NoneOpen c h (recordsOf h) x k
-      closed k x (yes e) m =
-          let is = ap (rowAt (withRow (s .table) place noted)) e ∙ table-here in
-          let m′ : member (insert (old .acknowledged) position) x ≡ true = sym (ap (λ (r : Row). member (r .acknowledged) x) is) ∙ m in
-          (ap (λ (r : Row). isPrepare (r .status)) is ∙ prepares, subst (NoneOpen c h (recordsOf h) x) (sym e) (shut x (ℕ-discrete x position) m′))
-        where
-          shut : (x : ℕ) → Dec (x ≡ position) → member (insert (old .acknowledged) position) x ≡ true → NoneOpen c h (recordsOf h) x place
-          shut x (yes i) m = subst (λ (y : ℕ). NoneOpen c h (recordsOf h) y place) (sym i) none-open
-          shut x (no n) m = a .closed place x (member-is (old .acknowledged) x (sym (insert-other (old .acknowledged) position x n) ∙ member-true (insert (old .acknowledged) position) x m)) .1
-      closed k x (no n) m =
-          let (p, o) = a .closed k x (sym (ap (λ (r : Row). member (r .acknowledged) x) (table-there k n)) ∙ m) in
-          (ap (λ (r : Row). isPrepare (r .status)) (table-there k n) ∙ p, o)
-
-      small : (k : ℕ) → Dec (k ≡ place) → rowAt (withRow (s .table) place noted) k .acknowledged < 2 ^ 64
-      small k (yes e) = subst (λ (r : Row). r .acknowledged < 2 ^ 64) (sym (ap (rowAt (withRow (s .table) place noted)) e ∙ table-here)) (insert-below 64 (old .acknowledged) position (a .small place) below)
-      small k (no n) = rw (table-there k n) (a .small k)
-
-      waiting : (k : ℕ) → Dec (k ≡ place) → isPrepare (rowAt (withRow (s .table) place noted) k .status) ≡ true → outstanding (rowAt (withRow (s .table) place noted) k) ≡ 0 → ⊥
-      waiting k (yes e) p z =
-          let is = ap (rowAt (withRow (s .table) place noted)) e ∙ table-here in
-          let none-left : difference (old .joined) (insert (old .acknowledged) position) ≡ 0 = sym (ap outstanding is) ∙ z in
+      waiting : difference (old .joined) (insert (old .acknowledged) position) ≡ 0 → ⊥
+      waiting z =
           let one = count-left 64 (old .joined) (old .acknowledged) position small-joined (a .small place) below (member-true (old .joined) position joins) (member-false (old .acknowledged) position new) in
-          let zero-left : count (difference (old .joined) (insert (old .acknowledged) position)) ≡ 0 = ap count none-left ∙ count-none in
+          let zero-left : count (difference (old .joined) (insert (old .acknowledged) position)) ≡ 0 = ap count z ∙ count-none in
           eqb-false (count (outstanding old)) 1 more-left (omega arith)
-      waiting k (no n) p z = a .waiting k (sym (ap (λ (r : Row). isPrepare (r .status)) (table-there k n)) ∙ p) (sym (ap outstanding (table-there k n)) ∙ z)
 
 -- the last one outstanding: every other joined position is acknowledged
 pub last-one : (joined acked position : ℕ) → joined < 2 ^ 64 → acked < 2 ^ 64 → position < 64 → member joined position ≡ true → member acked position ≡ false → eqb (count (difference joined acked)) 1 ≡ true

@@ -1,5 +1,6 @@
 -- Marker made in carrying: it is never refused, writes at most one marker, and leaves nothing open of its place there.
 use Prim.Native.Nat.{ℕ, _+_, _*_, _-_, _≤_, _<_}
+use Rattle.numbers.proofs.Tests.{not-both}
 use mathlib.Core.Path.{_≡_, refl, sym, ap, subst, _∙_}
 use mathlib.Core.Logic.{_≢_}
 use mathlib.Core.Bool.{Bool, true, false, not, _&&_}
@@ -54,7 +55,7 @@ use Rattle.agreement.proofs.Invariant.{NotAhead, epochOf, placeIn, None
 use Rattle.agreement.proofs.Tables.{latest-starts, place-row}
 use Rattle.agreement.proofs.Rows.{held-busy}
 use Rattle.agreement.proofs.RowsAfterProduce.{rows-same, rows-marked-elsewhere}
-use Rattle.agreement.proofs.RowsAfterMarker.{place-pid, marked-none, closed-none, another-none, rows-marked, rows-noted}
+use Rattle.agreement.proofs.RowsAfterMarker.{place-pid, marked-none, rows-marked, rows-noted, none-open-unless}
 use Rattle.agreement.proofs.Acknowledgements.{none-open-marked, acks-kept}
 use Rattle.agreement.proofs.Words.{words-next, words-same}
 use Rattle.agreement.proofs.Preserves.{Preserves, log-same, acks-of, leaders-of}
@@ -186,7 +187,7 @@ module _ (w : World) (i : Invariant w) (s : Coordinator) (u : w .phase ≡ up s)
         coordinator = subst (λ (y : Phase). toNat (o .coordinator) ≤ epochOf y) (sym u) (omega (arith, coordinator-is));
       })
       (λ y m. i .leaders y)
-      (subst (λ (y : Phase). CarryingSide c h y (toAcknowledge n o)) (sym u) (way, another-none c h (i .of-history) o r (its .there) f k0 (its .place) x p (i .leaders x .rows) refl d))
+      (subst (λ (y : Phase). CarryingSide c h y (toAcknowledge n o)) (sym u) (way, none-open-unless c h (i .of-history) o r (its .there) f k0 (its .place) x p (i .leaders x .rows) refl (λ s. d)))
 
   module _ (e : producerAt p k0 .pid ≡ toNat (o .pid)) where
     abbrev q : Producer
@@ -220,7 +221,7 @@ module _ (w : World) (i : Invariant w) (s : Coordinator) (u : w .phase ≡ up s)
           coordinator = subst (λ (y : Phase). toNat (o .coordinator) ≤ epochOf y) (sym u) (omega (arith, coordinator-is));
         })
         (λ y m. i .leaders y)
-        (subst (λ (y : Phase). CarryingSide c h y (toAcknowledge n o)) (sym u) (way, closed-none c h (i .of-history) o r (its .there) f k0 (its .place) x p (i .leaders x .rows) refl d))
+        (subst (λ (y : Phase). CarryingSide c h y (toAcknowledge n o)) (sym u) (way, none-open-unless c h (i .of-history) o r (its .there) f k0 (its .place) x p (i .leaders x .rows) refl (λ s y. not-both d s)))
 
     -- an open one: the marker is written
     closes : producerAt p k0 .ongoing ≡ true → (n : ℕ) → Preserves w (leaderDoes x (closeTransaction k0 (producerAt p k0) (toNat (o .epoch)) (o .verdict) (toNat (o .coordinator))) (markerWritten o) (toAcknowledge n o) w)

@@ -30,7 +30,7 @@ use Rattle.coordinator.specs.Order.{due, orderPlace, order}
 use Rattle.coordinator.specs.declared.Coordinator.{Coordinator}
 use Rattle.coordinator.proofs.OrderCases.{Ordered, order-given, order-none, order-found}
 use Rattle.runs.specs.History.{Order, Event, orderGiven, History, Logged, recordsOf, flushedOf, latestOf, recordNumbered, wordsIn}
-use Rattle.runs.specs.World.{Phase, up, down, Carrying, toDeliver, World, catalogueOf, leaderAt, withCarrying, withEvent, orderedRecord, numberOr, orderAnswered}
+use Rattle.runs.specs.World.{Phase, up, down, Carrying, toDeliver, World, catalogueOf, withCarrying, withEvent, orderedRecord, numberOr, orderAnswered}
 use Rattle.runs.specs.Demand3.{IsFor}
 use Rattle.protocol.specs.NextEvent.{MayBeNext}
 use Rattle.protocol.proofs.Lists.{found-is, found-with, In, find-in, either}
@@ -38,14 +38,14 @@ use Rattle.protocol.proofs.Statuses.{prepare-verdict, prepare-busy}
 use Rattle.protocol.proofs.Cuts.{latest-name}
 use Rattle.protocol.proofs.TableOfRecords.{come-record}
 use Rattle.protocol.proofs.AfterPrepare.{latest-last}
-use Rattle.protocol.proofs.Events.{given-records, same-entries, KeepsRecords}
+use Rattle.protocol.proofs.Events.{given-records, KeepsRecords}
 use Rattle.protocol.proofs.WritesNothing.{WritesNothing, given-writes-nothing}
-use Rattle.protocol.proofs.Extends.{still, more, extends-keeps, kept-stands}
-use Rattle.agreement.proofs.Invariant.{epochOf, placeIn, AcksSide, UnderWay, CarryingSide, Invariant}
+use Rattle.protocol.proofs.Extends.{kept-stands}
+use Rattle.agreement.proofs.Invariant.{placeIn, AcksSide, UnderWay, CarryingSide, Invariant}
 use Rattle.agreement.proofs.FlushedFirst.{proper}
 use Rattle.agreement.proofs.LiveTable.{live-ready, live-record-at, RecordAt}
 use Rattle.agreement.proofs.Acknowledgements.{none-open-kept, acks-kept}
-use Rattle.agreement.proofs.Preserves.{Preserves, log-same, leader-unwritten, log-of, acks-of, idles}
+use Rattle.agreement.proofs.Preserves.{Preserves, log-same, log-of, acks-of, idles, unwritten-preserves}
 
 -- ---- an event beside records and entries
 
@@ -83,25 +83,24 @@ way-same c h v s o r f u =
 pub order-only-preserves : (w : World) → Invariant w → (e : Event) → OrderOnly (w .history) e → MayBeNext (catalogueOf w) (w .history) e → (k : Carrying) → CarryingSide (catalogueOf w) (e ∷ w .history) (w .phase) k
     → Preserves w (withCarrying (withEvent w e) k)
 order-only-preserves w i e b m k d =
-    let c = catalogueOf w in
-    let h = w .history in
-    record {
-      same-text = refl;
-      extends = more still m;
-      holds = λ o. record {
-        parsed = i .parsed;
-        of-history = extends-keeps c h (i .of-history) (more still m);
-        offsets = rw (same-entries e h (b .writes-nothing .no-entry)) (i .offsets);
-        log-side = log-same c (w .log) (w .phase) h (e ∷ h) (b .keeps .records) (b .keeps .flushed) (i .log-side);
-        acks = acks-order-only c (w .phase) h e b (i .acks);
-        own = record { of-log = o .of-log; of-words = o .of-words };
-        count = i .count;
-        leaders = λ x. leader-unwritten c h (i .of-history) e (b .writes-nothing) (b .no-words) (epochOf (w .phase)) x (leaderAt w x) (i .leaders x);
-        carried = d;
-      };
-    }
+    unwritten-preserves w i e (w .phase) k (b .writes-nothing) (b .no-words) m (log-same (catalogueOf w) (w .log) (w .phase) (w .history) (e ∷ w .history) (b .keeps .records) (b .keeps .flushed) (i .log-side))
+    (acks-order-only (catalogueOf w) (w .phase) (w .history) e b (i .acks)) (omega arith) d
 
 -- ---- an order
+
+-- the order that Order gives from a place
+abbrev pub orderOf : Coordinator → ℕ → ℕ → History → Order
+orderOf s set place h =
+    let row = rowAt (s .table) place in
+    record {
+      place = place;
+      pid = signedOf w64 (row .pid);
+      epoch = signedOf w16 (row .epoch);
+      verdict = verdictOf (row .status);
+      position = lowest (due row set);
+      coordinator = signedOf w32 (s .epoch);
+      for = orderedRecord s place h;
+    }
 
 -- a prepare's place is held
 pub prepare-held : (w : World) (i : Invariant w) (s : Coordinator) (u : w .phase ≡ up s) (k : ℕ) → isPrepare (rowAt (s .table) k .status) ≡ true → free (rowAt (s .table) k) ≡ false
@@ -119,16 +118,7 @@ module _ (w : World) (i : Invariant w) (s : Coordinator) (u : w .phase ≡ up s)
   row = rowAt (s .table) place
 
   abbrev given : Order
-  given =
-      record {
-        place = place;
-        pid = signedOf w64 (row .pid);
-        epoch = signedOf w16 (row .epoch);
-        verdict = verdictOf (row .status);
-        position = lowest (due row set);
-        coordinator = signedOf w32 (s .epoch);
-        for = orderedRecord s place h;
-      }
+  given = orderOf s set place h
 
   st : RecordAt c (w .log) s h (log-of w i s u) (i .of-history) place
   st = live-record-at c (w .log) s h (log-of w i s u) (i .of-history) place (prepare-held w i s u place (o .prepares))

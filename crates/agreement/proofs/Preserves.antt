@@ -1,5 +1,5 @@
 -- A step is good if its history grows lawfully and the invariant holds after it. The coordinator's actions are.
-use Prim.Native.Nat.{ℕ, _+_, _≤_, _<_}
+use Prim.Native.Nat.{ℕ, _+_, _≤_, _<_, _≤_}
 use mathlib.Core.Path.{_≡_, refl, sym, ap, subst, _∙_}
 use mathlib.Core.Bool.{true, false}
 use mathlib.Core.List.{List, [], _∷_}
@@ -19,13 +19,14 @@ use Rattle.writer.proofs.Decisions.{Decided, byCall}
 use Rattle.writer.proofs.Lawful.{Lawful, decided-lawful}
 use Rattle.runs.proofs.Epochs.{epoch-kept}
 use Rattle.runs.specs.History.{Event, recordAppended, logFlushed, History, recordsOf, contents, flushedOf, wordsIn}
-use Rattle.runs.specs.World.{Leader, Phase, up, down, nothing, World, catalogueOf, leaderAt, withCarrying, historyAfter, coordinatorDoes, isAck}
+use Rattle.runs.specs.World.{Leader, Phase, up, down, nothing, World, catalogueOf, leaderAt, withCarrying, historyAfter, coordinatorDoes, isAck, Carrying}
 use Rattle.runs.proofs.Admitted.{Own}
 use Rattle.protocol.specs.Entries.{entriesOf}
 use Rattle.protocol.specs.HistoryInvariant.{HistoryInvariant}
+use Rattle.protocol.specs.NextEvent.{MayBeNext}
 use Rattle.protocol.proofs.Events.{flush-records, same-entries}
 use Rattle.protocol.proofs.WritesNothing.{WritesNothing, flush-writes-nothing}
-use Rattle.protocol.proofs.Extends.{Extends, still, extends-keeps}
+use Rattle.protocol.proofs.Extends.{Extends, still, extends-keeps, more}
 use Rattle.agreement.proofs.Invariant.{UpLog, LogSide, LeaderAgrees, epochOf, AcksAgree, AcksSide, CarryingSide, Invariant}
 use Rattle.agreement.proofs.FlushedFirst.{FlushedFirst, call-flushed-first, proper}
 use Rattle.agreement.proofs.LiveTable.{live-ready, append-may}
@@ -66,6 +67,31 @@ none-carried c h (down n before) = tt
 pub leader-unwritten : (c : Catalogue) (h : History) → HistoryInvariant c h → (e : Event) → WritesNothing h e → ((x : ℕ) → wordsIn x e ≡ []) → (epoch x : ℕ) (l : Leader) → LeaderAgrees c h epoch x l → LeaderAgrees c (e ∷ h) epoch x l
 leader-unwritten c h t e q n epoch x l a =
     record { words = a .words ∙ sym (words-same x e h (n x)); rows = rows-unwritten c h t x (l .partition) (a .rows) e q; coordinator = a .coordinator }
+
+-- an event that writes nothing, with the phase and what is carried after it
+pub unwritten-preserves : (w : World) → Invariant w → (e : Event) (p : Phase) (k : Carrying) → WritesNothing (w .history) e → ((x : ℕ) → wordsIn x e ≡ []) → MayBeNext (catalogueOf w) (w .history) e
+    → LogSide (catalogueOf w) (w .log) p (e ∷ w .history) → AcksSide (catalogueOf w) p (e ∷ w .history) → epochOf (w .phase) ≤ epochOf p → CarryingSide (catalogueOf w) (e ∷ w .history) p k
+    → Preserves w (record { text = w .text; log = w .log; phase = p; leaders = w .leaders; carrying = k; history = e ∷ w .history })
+unwritten-preserves w i e p k n no-words may log-side acks rises carried =
+    let c = catalogueOf w in
+    let h = w .history in
+    record {
+      same-text = refl;
+      extends = more still may;
+      holds = λ o. record {
+        parsed = i .parsed;
+        of-history = extends-keeps c h (i .of-history) (more still may);
+        offsets = rw (same-entries e h (n .no-entry)) (i .offsets);
+        log-side = log-side;
+        acks = acks;
+        own = o;
+        count = i .count;
+        leaders = λ x.
+            let a = leader-unwritten c h (i .of-history) e n no-words (epochOf (w .phase)) x (leaderAt w x) (i .leaders x) in
+            record { words = a .words; rows = a .rows; coordinator = omega (arith, a .coordinator) };
+        carried = carried;
+      };
+    }
 
 entries-after : (a : Action) (s : Coordinator) (h : History) → entriesOf (historyAfter a s h) ≡ entriesOf h
 entries-after keep s h = refl

@@ -55,13 +55,11 @@ use Rattle.runs.specs.History.{Order, logCut, logOpened, History, recordsOf, co
 use Rattle.runs.specs.World.{Phase, up, down, nothing, World, catalogueOf, leaderAt, coordinatorElsewhere, withPhase, withPartition, onceDone}
 use Rattle.runs.proofs.Leaves.{flush-elsewhere}
 use Rattle.protocol.proofs.Statuses.{prepare-busy}
-use Rattle.protocol.proofs.Events.{same-entries}
 use Rattle.protocol.proofs.WritesNothing.{cut-writes-nothing, opened-writes-nothing}
-use Rattle.protocol.proofs.Extends.{still, more, extends-keeps}
-use Rattle.agreement.proofs.Invariant.{DownLog, LogSide, LeaderAgrees, epochOf, AcksAgree, Invariant}
+use Rattle.agreement.proofs.Invariant.{DownLog, LogSide, epochOf, AcksAgree, Invariant}
 use Rattle.agreement.proofs.LogSteps.{cut-may, cut-down, opened-may, opened-up}
 use Rattle.agreement.proofs.Acknowledgements.{member-nothing, fresh-waits}
-use Rattle.agreement.proofs.Preserves.{Preserves, leader-unwritten, log-of, leaders-of, idles, calls}
+use Rattle.agreement.proofs.Preserves.{Preserves, log-of, idles, calls, unwritten-preserves}
 use Rattle.agreement.proofs.Produces.{own-at, keeps-leader}
 
 -- ---- a cut
@@ -74,21 +72,8 @@ cuts w i s u n e =
     let high = leb-true n (logEnd s) (and-right (leb (s .flushed) n) (leb n (logEnd s)) e) in
     let l = log-of w i s u in
     let may = cut-may c (w .log) s h l (i .of-history) n low in
-    record {
-      same-text = refl;
-      extends = more still may;
-      holds = λ o. record {
-        parsed = i .parsed;
-        of-history = extends-keeps c h (i .of-history) (more still may);
-        offsets = rw (same-entries (logCut n) h refl) (i .offsets);
-        log-side = cut-down c (w .log) s h l (i .of-history) n low high;
-        acks = tt;
-        own = o;
-        count = i .count;
-        leaders = λ x. leader-unwritten c h (i .of-history) (logCut n) (cut-writes-nothing h n may) (λ y. refl) (s .epoch) x (leaderAt w x) (leaders-of w i s u x);
-        carried = tt;
-      };
-    }
+    unwritten-preserves w i (logCut n) (down n (s .epoch)) nothing (cut-writes-nothing h n may) (λ x. refl) may (cut-down c (w .log) s h l (i .of-history) n low high) tt
+    (let e : epochOf (w .phase) ≡ s .epoch = ap epochOf u in omega arith) tt
 
 -- ---- an opening
 
@@ -122,25 +107,9 @@ reopens w i n before u epoch first last typed e =
     let d : DownLog c (w .log) n h = subst (λ (p : Phase). LogSide c (w .log) p h) u (i .log-side) in
     let may = opened-may (w .text) (w .log) (i .parsed) n h d (i .of-history) epoch in
     let (valid, epoch-is) = opening-valid (w .text) (w .log) n epoch first last accepted in
-    let rises : before ≤ opening (w .text) (w .log) n epoch first last .state .epoch = omega (arith, epoch-is, ap toNat m-is) in
-    record {
-      same-text = refl;
-      extends = more still may;
-      holds = λ o. record {
-        parsed = i .parsed;
-        of-history = extends-keeps c h (i .of-history) (more still may);
-        offsets = rw (same-entries (logOpened epoch) h refl) (i .offsets);
-        log-side = opened-up (w .text) (w .log) (i .parsed) n h d (i .of-history) epoch first last typed accepted;
-        acks = fresh-acks c (logOpened epoch ∷ h) (opening (w .text) (w .log) n epoch first last .state) valid;
-        own = o;
-        count = i .count;
-        leaders = λ x.
-            let a : LeaderAgrees c h before x (leaderAt w x) = subst (λ (p : Phase). LeaderAgrees c h (epochOf p) x (leaderAt w x)) u (i .leaders x) in
-            let b = leader-unwritten c h (i .of-history) (logOpened epoch) (opened-writes-nothing h epoch may) (λ y. refl) before x (leaderAt w x) a in
-            record { words = b .words; rows = b .rows; coordinator = omega (arith, b .coordinator) };
-        carried = tt;
-      };
-    }
+    let rises : epochOf (w .phase) ≤ opening (w .text) (w .log) n epoch first last .state .epoch = omega (arith, ap epochOf u, epoch-is, ap toNat m-is) in
+    unwritten-preserves w i (logOpened epoch) (up (opening (w .text) (w .log) n epoch first last .state)) nothing (opened-writes-nothing h epoch may) (λ x. refl) may
+    (opened-up (w .text) (w .log) (i .parsed) n h d (i .of-history) epoch first last typed accepted) (fresh-acks c (logOpened epoch ∷ h) (opening (w .text) (w .log) n epoch first last .state) valid) rises tt
 
 -- ---- another slice
 

@@ -4,14 +4,12 @@ use mathlib.Core.Path.{_≡_, refl, sym, ap, subst, _∙_}
 use mathlib.Core.Logic.{_≢_}
 use mathlib.Core.Bool.{Bool, true, false, _&&_, true≢false}
 use mathlib.Core.List.{List, _∷_}
-use native.Mathlib.Decide.{ℕ-discrete}
 use native.Mathlib.Omega.{arith}
 use lib.Dec.{eqb}
 use borrow.Author.Tests.{eqb-true, eq-eqb}
 use Rattle.numbers.specs.Border.{toNat}
-use Rattle.numbers.proofs.Tests.{and-right, and-both}
+use Rattle.numbers.proofs.Tests.{and-right, and-both, not-both}
 use Rattle.catalogue.specs.declared.Catalogue.{Catalogue}
-use Rattle.row.specs.Row.{held}
 use Rattle.row.specs.declared.Row.{Row}
 use Rattle.table.specs.Table.{rowAt}
 use Rattle.log_reader.specs.Records.{tableOf}
@@ -21,39 +19,27 @@ use Rattle.partition.specs.declared.Partition.{Partition}
 use Rattle.partition.specs.declared.Producer.{Producer}
 use Rattle.runs.specs.History.{Order, markerWritten, History, Logged, endingBy, recordsOf, contents, endOf, flushedOf}
 use Rattle.runs.specs.Demand3.{IsFor}
-use Rattle.protocol.specs.RecordsOfName.{latestIn}
 use Rattle.protocol.specs.Entries.{Entry, entriesOf, underOf}
 use Rattle.protocol.specs.HistoryInvariant.{HistoryInvariant}
-use Rattle.protocol.proofs.Lists.{some-same, In, each-in, in-each, either}
+use Rattle.protocol.proofs.Lists.{In, each-in, in-each, either, but-at}
 use Rattle.protocol.proofs.Cuts.{ending-all}
 use Rattle.protocol.proofs.Events.{entry-before, same-entries, marker-records}
 use Rattle.protocol.proofs.Entries.{under-next, under-same, first-open}
-use Rattle.protocol.proofs.Consequences.{cut-come, cut-ends, open-at, open-name, for-latest-at}
+use Rattle.protocol.proofs.Consequences.{open-name, for-latest-at}
 use Rattle.agreement.proofs.Invariant.{NotAhead, placeIn, Owns, NoneOpen, RowsAgree}
-use Rattle.agreement.proofs.Tables.{place-settled, place-name, place-row}
+use Rattle.agreement.proofs.Tables.{row-at, place-at, open-place}
 use Rattle.agreement.proofs.Rows.{open-owns}
 
 module _ (c : Catalogue) (h : History) (t : HistoryInvariant c h) (o : Order) (r : Logged) (i : In r (recordsOf h)) (f : IsFor o h r) (k0 : ℕ) (at : placeIn c (recordsOf h) (r .content .name) ≡ k0) where
-  settled-place : (k : ℕ) → flushedOf h ≤ k → placeIn c (endingBy k (recordsOf h)) (r .content .name) ≡ k0
-  settled-place k b = place-settled c k (recordsOf h) (t .come) (t .ends) (r .content .name) r (for-latest-at c h t o r i f k b) ∙ at
-
-  settled-row : (k : ℕ) → flushedOf h ≤ k → rowAt (tableOf c (contents (endingBy k (recordsOf h)))) k0 ≡ held (r .content) (r .end)
-  settled-row k b =
-      subst (λ (j : ℕ). rowAt (tableOf c (contents (endingBy k (recordsOf h)))) j ≡ held (r .content) (r .end)) (settled-place k b)
-      (place-row c (endingBy k (recordsOf h)) (cut-come c h t k) (cut-ends c h t k) (r .content .name) r (for-latest-at c h t o r i f k b))
-
   -- an open entry whose name is at the order's place is of its producer
   pub place-pid : (k : ℕ) → flushedOf h ≤ k → (d : Entry) → In d (entriesOf h) → underOf h d ≡ 0 → placeIn c (endingBy k (recordsOf h)) (d .what .name) ≡ k0 → d .what .pid ≡ o .pid
   place-pid k b d j z e =
-      open-at c h t k b d j z (λ l s g.
-      let name : d .what .name ≡ r .content .name = place-name c (endingBy k (recordsOf h)) (cut-come c h t k) (cut-ends c h t k) (d .what .name) (r .content .name) l r s (for-latest-at c h t o r i f k b) (e ∙ sym (settled-place k b)) in
-      let same : l ≡ r = some-same (sym s ∙ ap (λ (n : List ℕ). latestIn n (endingBy k (recordsOf h))) name ∙ for-latest-at c h t o r i f k b) in
-      sym (g .pid) ∙ ap (λ (y : Logged). y .content .pid) same ∙ f .pid)
+      open-place c h t (r .content .name) r (for-latest-at c h t o r i f) k0 at k b d j z e ∙ f .pid
 
   -- and one of its producer has its name at the order's place
   pub pid-place : (k : ℕ) → flushedOf h ≤ k → (d : Entry) → In d (entriesOf h) → underOf h d ≡ 0 → toNat (o .pid) ≡ toNat (d .what .pid) → placeIn c (endingBy k (recordsOf h)) (d .what .name) ≡ k0
   pid-place k b d j z e =
-      ap (placeIn c (endingBy k (recordsOf h))) (sym (open-name c h t o r i f k b d j z e)) ∙ settled-place k b
+      ap (placeIn c (endingBy k (recordsOf h))) (sym (open-name c h t o r i f k b d j z e)) ∙ place-at c h t (r .content .name) r (for-latest-at c h t o r i f) k0 at k b
 
   abbrev hits : Entry → Bool
   hits d = eqb (o .position) (d .what .position) && eqb (toNat (o .pid)) (toNat (d .what .pid))
@@ -75,40 +61,28 @@ module _ (c : Catalogue) (h : History) (t : HistoryInvariant c h) (o : Order) (r
       (λ e. under-same (markerWritten o) h d (entry-before h d j) (rw e) ∙ z)
 
   module _ (x : ℕ) (p : Partition) (a : RowsAgree c h x p) (position : o .position ≡ x) where
-    -- a row that is not open has no open entry
-    pub closed-none : producerAt p k0 .ongoing ≡ false → NoneOpen c h (recordsOf h) x k0
-    closed-none s =
+    -- no entry of that place is open unless the row there is, and of the order's producer
+    pub none-open-unless : (producerAt p k0 .ongoing ≡ true → producerAt p k0 .pid ≡ toNat (o .pid) → ⊥) → NoneOpen c h (recordsOf h) x k0
+    none-open-unless n =
         in-each _ (entriesOf h) (λ d j u z e.
         let k = flushedOf h + endOf (recordsOf h) in
-        let all = ending-all k (recordsOf h) (omega arith) in
-        let owns = open-owns c h x p a k (omega arith) d j u z in
-        let here : placeIn c (endingBy k (recordsOf h)) (d .what .name) ≡ k0 = ap (λ (l : List Logged). placeIn c l (d .what .name)) all ∙ e in
-        true≢false (sym (owns .ongoing) ∙ ap (λ (m : ℕ). producerAt p m .ongoing) here ∙ s))
-
-    -- nor has the row of another producer
-    pub another-none : (producerAt p k0 .pid ≡ toNat (o .pid) → ⊥) → NoneOpen c h (recordsOf h) x k0
-    another-none n =
-        in-each _ (entriesOf h) (λ d j u z e.
-        let k = flushedOf h + endOf (recordsOf h) in
-        let all = ending-all k (recordsOf h) (omega arith) in
-        let owns = open-owns c h x p a k (omega arith) d j u z in
-        let here : placeIn c (endingBy k (recordsOf h)) (d .what .name) ≡ k0 = ap (λ (l : List Logged). placeIn c l (d .what .name)) all ∙ e in
-        n (sym (ap (λ (m : ℕ). producerAt p m .pid) here) ∙ owns .pid ∙ ap toNat (place-pid k (omega arith) d j z here)))
+        let here : placeIn c (endingBy k (recordsOf h)) (d .what .name) ≡ k0 = ap (λ (l : List Logged). placeIn c l (d .what .name)) (ending-all k (recordsOf h) (omega arith)) ∙ e in
+        let owns : Owns (producerAt p k0) d = subst (λ (m : ℕ). Owns (producerAt p m) d) here (open-owns c h x p a k (omega arith) d j u z) in
+        n (owns .ongoing) (owns .pid ∙ ap toNat (place-pid k (omega arith) d j z here)))
 
     module _ (p′ : Partition) (q : Producer) (here : producerAt p′ k0 ≡ q) (others : (k : ℕ) → k ≢ k0 → producerAt p′ k ≡ producerAt p k) (shuts : q .ongoing ≡ false) (pid-is : q .pid ≡ producerAt p k0 .pid)
         (epoch-is : q .epoch ≡ toNat (o .epoch)) (grows : p .end ≤ p′ .end) where
-      row-epochs : (k : ℕ) → flushedOf h ≤ k → (j : ℕ) → Dec (j ≡ k0) → NotAhead (producerAt p′ j) (rowAt (tableOf c (contents (endingBy k (recordsOf h)))) j)
-      row-epochs k b j (yes e) free-not s =
-          let same : producerAt p′ j .epoch ≡ toNat (o .epoch) = ap (λ (m : ℕ). producerAt p′ m .epoch) e ∙ ap (λ (y : Producer). y .epoch) here ∙ epoch-is in
-          let row : rowAt (tableOf c (contents (endingBy k (recordsOf h)))) j .epoch ≡ toNat (r .content .epoch) = ap (λ (m : ℕ). rowAt (tableOf c (contents (endingBy k (recordsOf h)))) m .epoch) e ∙ ap (λ (y : Row). y .epoch) (settled-row k b) in
-          omega (arith, ap toNat (f .epoch))
-      row-epochs k b j (no n) free-not s = subst (λ (y : Producer). NotAhead y (rowAt (tableOf c (contents (endingBy k (recordsOf h)))) j)) (sym (others j n)) (a .epochs k b j) free-not s
+      changed : (P : ℕ → Producer → Type 0) → P k0 q → ((k : ℕ) → P k (producerAt p k)) → (k : ℕ) → P k (producerAt p′ k)
+      changed P = but-at (producerAt p) (producerAt p′) k0 q here others P
 
-      row-pids : (k : ℕ) → flushedOf h ≤ k → (j : ℕ) → Dec (j ≡ k0) → (producerAt p′ j .pid ≡ noPid → ⊥) → producerAt p′ j .pid < tableOf c (contents (endingBy k (recordsOf h))) .next
-      row-pids k b j (yes e) s =
-          let same : producerAt p′ j .pid ≡ producerAt p j .pid = ap (λ (m : ℕ). producerAt p′ m .pid) e ∙ ap (λ (y : Producer). y .pid) here ∙ pid-is ∙ ap (λ (m : ℕ). producerAt p m .pid) (sym e) in
-          rw same (a .pids k b j (λ z. s (same ∙ z)))
-      row-pids k b j (no n) s = rw (others j n) (a .pids k b j (λ z. s (ap (λ (y : Producer). y .pid) (others j n) ∙ z)))
+      row-epochs : (k : ℕ) → flushedOf h ≤ k → (j : ℕ) → NotAhead (producerAt p′ j) (rowAt (tableOf c (contents (endingBy k (recordsOf h)))) j)
+      row-epochs k b =
+          changed (λ j y. NotAhead y (rowAt (tableOf c (contents (endingBy k (recordsOf h)))) j))
+          (λ held-there s. omega (arith, epoch-is, ap toNat (f .epoch), ap (λ (y : Row). y .epoch) (row-at c h t (r .content .name) r (for-latest-at c h t o r i f) k0 at k b))) (a .epochs k b)
+
+      row-pids : (k : ℕ) → flushedOf h ≤ k → (j : ℕ) → (producerAt p′ j .pid ≡ noPid → ⊥) → producerAt p′ j .pid < tableOf c (contents (endingBy k (recordsOf h))) .next
+      row-pids k b =
+          changed (λ j y. (y .pid ≡ noPid → ⊥) → y .pid < tableOf c (contents (endingBy k (recordsOf h))) .next) (λ s. omega (arith, pid-is, a .pids k b k0 (λ z. s (pid-is ∙ z)))) (a .pids k b)
 
       owns-at : (k : ℕ) → flushedOf h ≤ k → (d : Entry) → In d (entriesOf h) → d .what .position ≡ x → underOf h d ≡ 0 → (placeIn c (endingBy k (recordsOf h)) (d .what .name) ≡ k0 → ⊥)
           → Owns (producerAt p′ (placeIn c (endingBy k (recordsOf h)) (d .what .name))) d
@@ -119,10 +93,7 @@ module _ (c : Catalogue) (h : History) (t : HistoryInvariant c h) (o : Order) (r
       not-here j s e = true≢false (sym s ∙ ap (λ (m : ℕ). producerAt p′ m .ongoing) e ∙ ap (λ (y : Producer). y .ongoing) here ∙ shuts)
 
       row-firsts : (j : ℕ) → producerAt p′ j .ongoing ≡ true → producerAt p′ j .first ≤ p′ .end
-      row-firsts j s =
-          let n = not-here j s in
-          let b = a .firsts j (sym (ap (λ (y : Producer). y .ongoing) (others j n)) ∙ s) in
-          omega (arith, ap (λ (y : Producer). y .first) (others j n))
+      row-firsts = changed (λ j y. y .ongoing ≡ true → y .first ≤ p′ .end) (λ s. not-both shuts s) (λ j s. omega (arith, a .firsts j s))
 
       -- the marker is written
       pub rows-marked : RowsAgree c (markerWritten o ∷ h) x p′
@@ -136,9 +107,9 @@ module _ (c : Catalogue) (h : History) (t : HistoryInvariant c h) (o : Order) (r
                 (in-each _ (entriesOf h) (λ d v u z e.
                 each-in (λ (d : Entry). d .what .position ≡ x → underOf (markerWritten o ∷ h) d ≡ 0 → placeIn c (endingBy k (recordsOf h)) (d .what .name) ≡ j → ⊥) (entriesOf h) d m v u
                 (other-open k (rw (marker-records h o .flushed) at b) d v z (λ y. n (sym e ∙ y))) e)));
-            epochs = λ k b. rw (marker-records h o .records) (λ j. row-epochs k (rw (marker-records h o .flushed) at b) j (ℕ-discrete j k0));
+            epochs = λ k b. rw (marker-records h o .records) (row-epochs k (rw (marker-records h o .flushed) at b));
             firsts = row-firsts;
-            pids = λ k b. rw (marker-records h o .records) (λ j s. row-pids k (rw (marker-records h o .flushed) at b) j (ℕ-discrete j k0) s);
+            pids = λ k b. rw (marker-records h o .records) (row-pids k (rw (marker-records h o .flushed) at b));
           }
 
       -- nothing is written: the row was not open
@@ -149,7 +120,7 @@ module _ (c : Catalogue) (h : History) (t : HistoryInvariant c h) (o : Order) (r
                 let owns = open-owns c h x p a k b d j u z in
                 true≢false (sym (owns .ongoing) ∙ ap (λ (m : ℕ). producerAt p m .ongoing) e ∙ s)));
             row-entry = λ k b j v m. a .row-entry k b j (sym (ap (λ (y : Producer). y .ongoing) (others j (not-here j v))) ∙ v) m;
-            epochs = λ k b j. row-epochs k b j (ℕ-discrete j k0);
+            epochs = row-epochs;
             firsts = row-firsts;
-            pids = λ k b j v. row-pids k b j (ℕ-discrete j k0) v;
+            pids = row-pids;
           }

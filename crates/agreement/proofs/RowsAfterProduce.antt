@@ -3,14 +3,13 @@ use Prim.Native.Nat.{ℕ, _≤_, _<_}
 use mathlib.Core.Path.{_≡_, refl, sym, ap, subst, _∙_}
 use mathlib.Core.Logic.{_≢_}
 use mathlib.Core.Bool.{true}
-use mathlib.Core.List.{List, _∷_}
+use mathlib.Core.List.{_∷_}
 use mathlib.Core.Option.{some}
 use native.Mathlib.Decide.{ℕ-discrete}
 use native.Mathlib.Omega.{arith}
 use borrow.Author.Tests.{leb-true, ne-eqb}
 use Rattle.numbers.specs.Border.{toNat}
 use Rattle.catalogue.specs.declared.Catalogue.{Catalogue}
-use Rattle.row.specs.Row.{held}
 use Rattle.row.specs.declared.Row.{Row}
 use Rattle.search.specs.Search.{Each}
 use Rattle.table.specs.Table.{rowAt}
@@ -24,14 +23,14 @@ use Rattle.runs.specs.Demand3.{Entitled}
 use Rattle.protocol.specs.RecordsOfName.{latestIn}
 use Rattle.protocol.specs.Entries.{Entry, entriesOf, underOf}
 use Rattle.protocol.specs.HistoryInvariant.{HistoryInvariant}
-use Rattle.protocol.proofs.Lists.{some-same, In, each-in, in-each, find-in}
+use Rattle.protocol.proofs.Lists.{In, each-in, in-each, find-in, but-at}
 use Rattle.protocol.proofs.Cuts.{latest-settled}
 use Rattle.protocol.proofs.ProducerIds.{pid-below}
 use Rattle.protocol.proofs.Events.{entry-before, newEntry, more-entries, entry-records, same-entries, marker-records}
 use Rattle.protocol.proofs.Entries.{under-same, under-new, under-each, under-back}
-use Rattle.protocol.proofs.Consequences.{cut-come, cut-ends, open-at}
+use Rattle.protocol.proofs.Consequences.{cut-come}
 use Rattle.agreement.proofs.Invariant.{NotAhead, placeIn, Owns, RowsAgree}
-use Rattle.agreement.proofs.Tables.{place-settled, place-name, place-row}
+use Rattle.agreement.proofs.Tables.{row-at, place-at, open-place}
 use Rattle.agreement.proofs.Rows.{open-owns}
 
 module _ (c : Catalogue) (h : History) (t : HistoryInvariant c h) (x : ℕ) (p : Partition) (a : RowsAgree c h x p) where
@@ -96,60 +95,46 @@ module _ (c : Catalogue) (h : History) (t : HistoryInvariant c h) (x : ℕ) (p :
       settled-latest : (k : ℕ) → flushedOf h ≤ k → latestIn (e .name) (endingBy k (recordsOf h)) ≡ some l
       settled-latest k b = latest-settled (e .name) (flushedOf h) k b (recordsOf h) l is (leb-true (l .end) (flushedOf h) (f .flushed)) .0
 
-      settled-place : (k : ℕ) → flushedOf h ≤ k → placeIn c (endingBy k (recordsOf h)) (e .name) ≡ k0
-      settled-place k b = place-settled c k (recordsOf h) (t .come) (t .ends) (e .name) l (settled-latest k b) ∙ at
-
-      settled-row : (k : ℕ) → flushedOf h ≤ k → rowAt (tableOf c (contents (endingBy k (recordsOf h)))) k0 ≡ held (l .content) (l .end)
-      settled-row k b = subst (λ (i : ℕ). rowAt (tableOf c (contents (endingBy k (recordsOf h)))) i ≡ held (l .content) (l .end)) (settled-place k b) (place-row c (endingBy k (recordsOf h)) (cut-come c h t k) (cut-ends c h t k) (e .name) l (settled-latest k b))
-
       old-owns : (k : ℕ) → flushedOf h ≤ k → (d : Entry) → In d (entriesOf h) → d .what .position ≡ x → underOf h d ≡ 0 → Owns (producerAt p′ (placeIn c (endingBy k (recordsOf h)) (d .what .name))) d
       old-owns k b d j u z = go (ℕ-discrete (placeIn c (endingBy k (recordsOf h)) (d .what .name)) k0)
         where
           go : Dec (placeIn c (endingBy k (recordsOf h)) (d .what .name) ≡ k0) → Owns (producerAt p′ (placeIn c (endingBy k (recordsOf h)) (d .what .name))) d
           go (no n) = owns-other d _ n (open-owns c h x p a k b d j u z)
           go (yes i) =
-              open-at c h t k b d j z (λ r s g.
-              let name : d .what .name ≡ e .name = place-name c (endingBy k (recordsOf h)) (cut-come c h t k) (cut-ends c h t k) (d .what .name) (e .name) r l s (settled-latest k b) (i ∙ sym (settled-place k b)) in
-              let same : r ≡ l = some-same (sym s ∙ ap (λ (n : List ℕ). latestIn n (endingBy k (recordsOf h))) name ∙ settled-latest k b) in
+              let pids : d .what .pid ≡ e .pid = open-place c h t (e .name) l settled-latest k0 at k b d j z i ∙ f .pid in
               let owned : Owns (producerAt p k0) d = subst (λ (m : ℕ). Owns (producerAt p m) d) i (open-owns c h x p a k b d j u z) in
               let older : q .first ≤ d .what .offset = omega (arith, first-kept (owned .ongoing), owned .first) in
-              let pids : d .what .pid ≡ e .pid = sym (g .pid) ∙ ap (λ (y : Logged). y .content .pid) same ∙ f .pid in
-              subst (λ (m : ℕ). Owns (producerAt p′ m) d) (sym i) (subst (λ (y : Producer). Owns y d) (sym here) (record { ongoing = ongoing; pid = pid-is ∙ ap toNat (sym pids); first = older })))
+              subst (λ (m : ℕ). Owns (producerAt p′ m) d) (sym i) (subst (λ (y : Producer). Owns y d) (sym here) (record { ongoing = ongoing; pid = pid-is ∙ ap toNat (sym pids); first = older }))
 
       pub rows-entered : e .position ≡ x → RowsAgree c (entryWritten e ∷ h) x p′
       rows-entered position =
           record {
             entry-row = λ k b. rw (entry-records h e .records, more-entries e h) (
-              λ u z. subst (λ (m : ℕ). Owns (producerAt p′ m) written) (sym (settled-place k (rw (entry-records h e .flushed) at b))) (subst (λ (y : Producer). Owns y written) (sym here) (record { ongoing = ongoing; pid = pid-is; first = first-is })),
+              λ u z. subst (λ (m : ℕ). Owns (producerAt p′ m) written) (sym (place-at c h t (e .name) l settled-latest k0 at k (rw (entry-records h e .flushed) at b))) (subst (λ (y : Producer). Owns y written) (sym here) (record { ongoing = ongoing; pid = pid-is; first = first-is })),
               under-each h (entryWritten e) (λ position pid. refl) (λ (m : ℕ) (d : Entry). d .what .position ≡ x → m ≡ 0 → Owns (producerAt p′ (placeIn c (endingBy k (recordsOf h)) (d .what .name))) d) (in-each _ (entriesOf h) (λ d j. old-owns k (rw (entry-records h e .flushed) at b) d j)),
             );
             row-entry = λ k b. rw (entry-records h e .records, more-entries e h) (λ j s m. go k (rw (entry-records h e .flushed) at b) j (ℕ-discrete j k0) s (m .0) (m .1));
-            epochs = λ k b. rw (entry-records h e .records) (λ j. row-epochs k (rw (entry-records h e .flushed) at b) j (ℕ-discrete j k0));
-            firsts = λ j s. row-firsts j (ℕ-discrete j k0) s;
-            pids = λ k b. rw (entry-records h e .records) (λ j s. row-pids k (rw (entry-records h e .flushed) at b) j (ℕ-discrete j k0) s);
+            epochs = λ k b. rw (entry-records h e .records) (row-epochs k (rw (entry-records h e .flushed) at b));
+            firsts = changed (λ j y. y .ongoing ≡ true → y .first ≤ p′ .end) (λ s. within) (λ j s. omega (arith, a .firsts j s));
+            pids = λ k b. rw (entry-records h e .records) (row-pids k (rw (entry-records h e .flushed) at b));
           }
         where
           go : (k : ℕ) → flushedOf h ≤ k → (j : ℕ) → Dec (j ≡ k0) → producerAt p′ j .ongoing ≡ true
               → (e .position ≡ x → underOf (entryWritten e ∷ h) written ≡ 0 → placeIn c (endingBy k (recordsOf h)) (e .name) ≡ j → ⊥)
               → Each (λ (d : Entry). d .what .position ≡ x → underOf (entryWritten e ∷ h) d ≡ 0 → placeIn c (endingBy k (recordsOf h)) (d .what .name) ≡ j → ⊥) (entriesOf h) → ⊥
-          go k b j (yes i) s m ms = m position (under-new (entryWritten e) h written (omega arith)) (settled-place k b ∙ sym i)
+          go k b j (yes i) s m ms = m position (under-new (entryWritten e) h written (omega arith)) (place-at c h t (e .name) l settled-latest k0 at k b ∙ sym i)
           go k b j (no n) s m ms =
               a .row-entry k b j (sym (ap (λ (y : Producer). y .ongoing) (others j n)) ∙ s) (under-back h (entryWritten e) (λ d i. refl) (λ (m : ℕ) (d : Entry). d .what .position ≡ x → m ≡ 0 → placeIn c (endingBy k (recordsOf h)) (d .what .name) ≡ j → ⊥) ms)
 
-          row-firsts : (j : ℕ) → Dec (j ≡ k0) → producerAt p′ j .ongoing ≡ true → producerAt p′ j .first ≤ p′ .end
-          row-firsts j (yes i) s = let z : producerAt p′ j .first ≡ q .first = ap (λ (m : ℕ). producerAt p′ m .first) i ∙ ap (λ (y : Producer). y .first) here in omega arith
-          row-firsts j (no n) s = let b = a .firsts j (sym (ap (λ (y : Producer). y .ongoing) (others j n)) ∙ s) in omega (arith, ap (λ (y : Producer). y .first) (others j n))
+          changed : (P : ℕ → Producer → Type 0) → P k0 q → ((k : ℕ) → P k (producerAt p k)) → (k : ℕ) → P k (producerAt p′ k)
+          changed P = but-at (producerAt p) (producerAt p′) k0 q here others P
 
-          row-epochs : (k : ℕ) → flushedOf h ≤ k → (j : ℕ) → Dec (j ≡ k0) → NotAhead (producerAt p′ j) (rowAt (tableOf c (contents (endingBy k (recordsOf h)))) j)
-          row-epochs k b j (yes i) free-not s =
-              let same : producerAt p′ j .epoch ≡ toNat (e .epoch) = ap (λ (m : ℕ). producerAt p′ m .epoch) i ∙ ap (λ (y : Producer). y .epoch) here ∙ epoch-is in
-              let row : rowAt (tableOf c (contents (endingBy k (recordsOf h)))) j .epoch ≡ toNat (l .content .epoch) = ap (λ (m : ℕ). rowAt (tableOf c (contents (endingBy k (recordsOf h)))) m .epoch) i ∙ ap (λ (y : Row). y .epoch) (settled-row k b) in
-              omega (arith, ap toNat (f .epoch))
-          row-epochs k b j (no n) free-not s = subst (λ (y : Producer). NotAhead y (rowAt (tableOf c (contents (endingBy k (recordsOf h)))) j)) (sym (others j n)) (a .epochs k b j) free-not s
+          row-epochs : (k : ℕ) → flushedOf h ≤ k → (j : ℕ) → NotAhead (producerAt p′ j) (rowAt (tableOf c (contents (endingBy k (recordsOf h)))) j)
+          row-epochs k b =
+              changed (λ j y. NotAhead y (rowAt (tableOf c (contents (endingBy k (recordsOf h)))) j))
+              (λ held-there s. omega (arith, epoch-is, ap toNat (f .epoch), ap (λ (y : Row). y .epoch) (row-at c h t (e .name) l settled-latest k0 at k b))) (a .epochs k b)
 
-          row-pids : (k : ℕ) → flushedOf h ≤ k → (j : ℕ) → Dec (j ≡ k0) → (producerAt p′ j .pid ≡ noPid → ⊥) → producerAt p′ j .pid < tableOf c (contents (endingBy k (recordsOf h))) .next
-          row-pids k b j (yes i) s =
-              let same : producerAt p′ j .pid ≡ toNat (e .pid) = ap (λ (m : ℕ). producerAt p′ m .pid) i ∙ ap (λ (y : Producer). y .pid) here ∙ pid-is in
-              let low = pid-below c (endingBy k (recordsOf h)) (cut-come c h t k) l (find-in (isOf (e .name)) (endingBy k (recordsOf h)) l (settled-latest k b)) in
-              omega (arith, ap toNat (f .pid))
-          row-pids k b j (no n) s = rw (others j n) (a .pids k b j (λ z. s (ap (λ (y : Producer). y .pid) (others j n) ∙ z)))
+          row-pids : (k : ℕ) → flushedOf h ≤ k → (j : ℕ) → (producerAt p′ j .pid ≡ noPid → ⊥) → producerAt p′ j .pid < tableOf c (contents (endingBy k (recordsOf h))) .next
+          row-pids k b =
+              changed (λ j y. (y .pid ≡ noPid → ⊥) → y .pid < tableOf c (contents (endingBy k (recordsOf h))) .next)
+              (λ s. omega (arith, pid-is, ap toNat (f .pid), pid-below c (endingBy k (recordsOf h)) (cut-come c h t k) l (find-in (isOf (e .name)) (endingBy k (recordsOf h)) l (settled-latest k b)))) (a .pids k b)

@@ -23,12 +23,15 @@ use Rattle.table.proofs.Records.{Starts, record-place, record-next, come-place,
 use Rattle.log_reader.specs.Records.{tableOf, allCome}
 use Rattle.log_reader.proofs.RecordLaws.{come-parts, table-newest}
 use Rattle.log_reader.proofs.TableSays.{records-valid}
-use Rattle.runs.specs.History.{Logged, endingBy, contents, isOf}
+use Rattle.runs.specs.History.{History, recordsOf, flushedOf, Logged, endingBy, contents, isOf}
 use Rattle.runs.specs.Demand3.{Ends}
 use Rattle.protocol.specs.RecordsOfName.{latestIn}
-use Rattle.protocol.proofs.Lists.{find-in, find-passes, find-some, either}
+use Rattle.protocol.specs.Entries.{underOf, entriesOf, Entry}
+use Rattle.protocol.specs.HistoryInvariant.{HistoryInvariant}
+use Rattle.protocol.proofs.Lists.{find-in, find-passes, find-some, either, some-same, In}
 use Rattle.protocol.proofs.Cuts.{ending-stays, ending-drops, ending-in, latest-name}
 use Rattle.protocol.proofs.TableOfRecords.{come-record, table-latest}
+use Rattle.protocol.proofs.Consequences.{open-at, cut-ends, cut-come}
 use Rattle.agreement.proofs.Invariant.{placeIn}
 
 module _ (c : Catalogue) where
@@ -100,3 +103,22 @@ module _ (c : Catalogue) where
 
     pub next-rises : before .next ≤ tableOf c (contents (x ∷ l)) .next
     next-rises = rw (table-newest c emptyTable (x .content) (contents l), record-next before (x .content) (before .end + length (frame c (x .content)))) (omega arith)
+
+-- a name with a record that every cut leaves its latest has its place and row at every cut
+module _ (c : Catalogue) (h : History) (t : HistoryInvariant c h) (name : List ℕ) (r : Logged) (latest-at : (k : ℕ) → flushedOf h ≤ k → latestIn name (endingBy k (recordsOf h)) ≡ some r)
+    (place : ℕ) (at : placeIn c (recordsOf h) name ≡ place) where
+  pub place-at : (k : ℕ) → flushedOf h ≤ k → placeIn c (endingBy k (recordsOf h)) name ≡ place
+  place-at k b = place-settled c k (recordsOf h) (t .come) (t .ends) name r (latest-at k b) ∙ at
+
+  pub row-at : (k : ℕ) → flushedOf h ≤ k → rowAt (tableOf c (contents (endingBy k (recordsOf h)))) place ≡ held (r .content) (r .end)
+  row-at k b =
+      subst (λ (j : ℕ). rowAt (tableOf c (contents (endingBy k (recordsOf h)))) j ≡ held (r .content) (r .end)) (place-at k b)
+      (place-row c (endingBy k (recordsOf h)) (cut-come c h t k) (cut-ends c h t k) name r (latest-at k b))
+
+  -- an open entry at that place is of that name, and its transaction's record is that one
+  pub open-place : (k : ℕ) → flushedOf h ≤ k → (d : Entry) → In d (entriesOf h) → underOf h d ≡ 0 → placeIn c (endingBy k (recordsOf h)) (d .what .name) ≡ place → d .what .pid ≡ r .content .pid
+  open-place k b d j z e =
+      open-at c h t k b d j z (λ l s g.
+      let same-name : d .what .name ≡ name = place-name c (endingBy k (recordsOf h)) (cut-come c h t k) (cut-ends c h t k) (d .what .name) name l r s (latest-at k b) (e ∙ sym (place-at k b)) in
+      let same : l ≡ r = some-same (sym s ∙ ap (λ (n : List ℕ). latestIn n (endingBy k (recordsOf h))) same-name ∙ latest-at k b) in
+      sym (g .pid) ∙ ap (λ (y : Logged). y .content .pid) same)

@@ -5,6 +5,8 @@ use mathlib.Core.Bool.{Bool, true, false}
 use mathlib.Core.List.{List, [], _∷_}
 use mathlib.Core.Option.{Option, none, some}
 use native.Mathlib.Omega.{arith}
+use mathlib.Core.Logic.{_≢_}
+use native.Mathlib.Decide.{ℕ-discrete}
 use Rattle.numbers.proofs.Tests.{by-cases, not-both}
 use Rattle.search.specs.Search.{countWhere, find, findLast, filter, Each, Found, IfFound}
 
@@ -13,6 +15,14 @@ use Rattle.search.specs.Search.{countWhere, find, findLast, filter, Each, Found
 pub either : {X : Type 0} (b : Bool) → (b ≡ true → X) → (b ≡ false → X) → X
 either true f g = f refl
 either false f g = g refl
+
+-- what holds of the values of a function holds of another that has the same ones but at one place
+pub but-at : {A : Type 0} (f g : ℕ → A) (k : ℕ) (a : A) → g k ≡ a → ((j : ℕ) → j ≢ k → g j ≡ f j) → (P : ℕ → A → Type 0) → P k a → ((j : ℕ) → P j (f j)) → (j : ℕ) → P j (g j)
+but-at f g k a here others P new old j = go (ℕ-discrete j k)
+  where
+    go : Dec (j ≡ k) → P j (g j)
+    go (yes e) = subst (λ (i : ℕ). P i (g i)) (sym e) (subst (P k) (sym here) new)
+    go (no n) = subst (P j) (sym (others j n)) (old j)
 
 -- ---- options
 

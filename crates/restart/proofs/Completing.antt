@@ -9,11 +9,9 @@ use lib.Bits.{and-le-l}
 use lib.Count.{ones}
 use lib.Dec.{eqb, ltb}
 use lib.ListN.{length, getD}
-use mir.Syntax.{w16, w32, w64}
 use borrow.Author.Tests.{eq-eqb, eqb-true, eqb-false, lt-ltb, ltb-true, ltb-false, le-ltb, not-true}
 use Rattle.numbers.proofs.Tests.{by-cases, not-both, and-left, and-right, and-both}
-use Rattle.numbers.specs.Border.{signedOf}
-use Rattle.bits.specs.Bits.{member, count, difference, insert, lowest}
+use Rattle.bits.specs.Bits.{member, count, difference, insert}
 use Rattle.bits.proofs.Laws.{count-zero, count-left, member-true, member-false, subset-same, subset-is, subset-from, left-parts, member-is}
 use Rattle.catalogue.proofs.Laws.{not-refused, all-bound}
 use Rattle.record.specs.Record.{statusCode}
@@ -21,7 +19,7 @@ use Rattle.record.proofs.Bounds.{well-formed-parts}
 use Rattle.record.specs.declared.Status.{Status}
 use Rattle.record.specs.declared.Status.the-variants.{Empty, Begin, PrepareCommit, PrepareAbort, CompleteCommit, CompleteAbort}
 use Rattle.row.specs.Row.{freeRow, isPrepare, outstanding, withAcknowledged, withEnd}
-use Rattle.row.specs.Steps.{completed, completeOf, verdictOf}
+use Rattle.row.specs.Steps.{completed, completeOf}
 use Rattle.row.specs.declared.Row.{Row}
 use Rattle.search.specs.Search.{sumOf, Each}
 use Rattle.search.proofs.Laws.{sum-set}
@@ -41,7 +39,7 @@ use Rattle.coordinator.proofs.OrderCases.{ordered-is, order-given, order-lowest
 use Rattle.partition.specs.Partition.{Action as PartitionAction, keep as keepPartition, note, write}
 use Rattle.partition.specs.Marker.{marker}
 use Rattle.runs.specs.History.{Order, orderGiven, orderCarried, markerWritten, History, Logged, collect, carriedIn, recordsOf, flushedOf, latestOf, nextOf, flushedPrepares, isCompleted}
-use Rattle.runs.specs.World.{Leader, Phase, up, Carrying, nothing, toDeliver, toAcknowledge, World, catalogueOf, leaderAt, start, own, Item, callOrder, deliver, acknowledge, withEvent, coordinatorDoes, orderAnswered, deliverable, acknowledgeable, markerCalled, ackCalled, historyAfter, historyWritten, orderedRecord, next, step, run}
+use Rattle.runs.specs.World.{Leader, Phase, up, Carrying, nothing, toDeliver, toAcknowledge, World, catalogueOf, leaderAt, start, own, Item, callOrder, deliver, acknowledge, withEvent, coordinatorDoes, orderAnswered, deliverable, acknowledgeable, markerCalled, ackCalled, historyAfter, historyWritten, next, step, run}
 use Rattle.runs.specs.Completing.{carryOne, carryEach, rowLeft, ordersLeft, Completing}
 use Rattle.runs.specs.Demand3.{Completes, CarryingAccepted}
 use Rattle.runs.proofs.Run.{run-append}
@@ -56,7 +54,7 @@ use Rattle.agreement.proofs.Invariant.{UnderWay, CarryingSide, Invariant}
 use Rattle.agreement.proofs.FlushedFirst.{proper}
 use Rattle.agreement.proofs.LiveTable.{live-ready, live-latest, live-record-at, live-holds}
 use Rattle.agreement.proofs.Preserves.{log-of, acks-of}
-use Rattle.agreement.proofs.Orders.{prepare-held}
+use Rattle.agreement.proofs.Orders.{prepare-held, orderOf}
 use Rattle.agreement.proofs.Delivers.{place-below}
 use Rattle.agreement.proofs.Acknowledges.{ack-passes, row-joins, joined-small, position-below}
 use Rattle.agreement.proofs.Steps.{step-preserves, Reached, run-reached, always}
@@ -270,17 +268,7 @@ given w i s u n =
     place = orderPlace s set
 
     o : Order
-    o =
-        let r = rowAt (s .table) place in
-        record {
-          place = place;
-          pid = signedOf w64 (r .pid);
-          epoch = signedOf w16 (r .epoch);
-          verdict = verdictOf (r .status);
-          position = lowest (due r set);
-          coordinator = signedOf w32 (s .epoch);
-          for = orderedRecord s place (w .history);
-        }
+    o = orderOf s set place (w .history)
 
     word : isWord set ≡ true
     word = lt-ltb set (2 ^ 64) (all-bound (w .text) (catalogueOf w) (not-refused (w .text) (i .parsed)))
