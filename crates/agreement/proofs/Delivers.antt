@@ -3,7 +3,7 @@ use Prim.Native.Nat.{ℕ, _+_, _*_, _-_, _≤_, _<_}
 use Rattle.numbers.proofs.Tests.{not-both}
 use mathlib.Core.Path.{_≡_, refl, sym, ap, subst, _∙_}
 use mathlib.Core.Logic.{_≢_}
-use mathlib.Core.Bool.{Bool, true, false, not, _&&_}
+use mathlib.Core.Bool.{Bool, true, false, _&&_}
 use mathlib.Core.List.{List, _∷_, _++_}
 use mathlib.Core.Option.{some}
 use native.Mathlib.Omega.{arith}
@@ -168,8 +168,8 @@ module _ (w : World) (i : Invariant w) (s : Coordinator) (u : w .phase ≡ up s)
         ),
       )
     where
-      fits : (producerAt p k0 .pid ≡ toNat (o .pid) → producerAt p k0 .epoch ≤ toNat (o .epoch)) → (b : Bool) → eqb (producerAt p k0 .pid) (toNat (o .pid)) ≡ b → not (not (b && ltb (toNat (o .epoch)) (producerAt p k0 .epoch))) ≡ false
-      fits g true e = rw (le-ltb (toNat (o .epoch)) (producerAt p k0 .epoch) (g (eqb-true _ _ e))) refl
+      fits : (producerAt p k0 .pid ≡ toNat (o .pid) → producerAt p k0 .epoch ≤ toNat (o .epoch)) → (b : Bool) → eqb (producerAt p k0 .pid) (toNat (o .pid)) ≡ b → (b && ltb (toNat (o .epoch)) (producerAt p k0 .epoch)) ≡ false
+      fits g true e = le-ltb (toNat (o .epoch)) (producerAt p k0 .epoch) (g (eqb-true _ _ e))
       fits g false e = refl
 
   -- ---- what it leaves

@@ -2,5 +2,6 @@
 pub mod MarkerCases
 pub mod Laws
 pub mod Fits
-mod Made
+mod MarkerSteps
+mod ProduceSteps
 pub mod Reserve

@@ -3,4 +3,4 @@ pub mod ProduceCases
 pub mod Lines
 pub mod Demand1
 pub mod Admitted
-mod Made
+mod ProduceSteps

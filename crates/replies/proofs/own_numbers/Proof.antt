@@ -20,9 +20,6 @@ enum-known-results-2 c = search needs
 enum-known-results-3 : tie.Need-enum-known-results-3
 enum-known-results-3 c = search needs
 
-cast-t12 : tie.Need-cast-t12
-cast-t12 c = search needs
-
 enum-told-3 : tie.Need-enum-told-3
 enum-told-3 c = search needs
 
@@ -53,7 +50,6 @@ own-numbers-spec =
     enum-known-results
     enum-known-results-2
     enum-known-results-3
-    cast-t12
     enum-told-3
     returns
     returns-2
