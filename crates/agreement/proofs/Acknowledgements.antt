@@ -1,25 +1,26 @@
 -- Acknowledgements and open entries: what is acknowledged is closed, and a prepare waits for some partition.
-use Prim.Native.Nat.{ℕ, _+_, _<_, _^_}
+use Prim.Native.Nat.{ℕ, _+_, _<_, _^_, _-_}
 use mathlib.Core.Path.{_≡_, refl, sym, ap, subst, _∙_}
 use mathlib.Core.Logic.{_≢_}
-use mathlib.Core.Bool.{true, false, true≢false}
+use mathlib.Core.Bool.{true, false}
 use mathlib.Core.List.{[], _∷_}
 use mathlib.Core.Option.{some}
 use native.Mathlib.Decide.{ℕ-discrete}
 use native.Mathlib.Omega.{arith}
-use Prim.Native.Nat.{_-_}
-use lib.Bits.{and-le-l}
 use lib.Dec.{eqb}
 use lib.ListN.{length}
-use borrow.Author.Tests.{eqb-true, eqb-false}
+use borrow.Author.Tests.{eqb-false}
 use Rattle.bits.specs.Bits.{member, insert, difference, count, lowest}
-use Rattle.bits.proofs.Laws.{member-is, member-is-not, member-true, member-false, bit-of-none, lowest-member, left-is, count-left, count-zero, count-none, insert-other, insert-below}
+use Rattle.bits.proofs.Laws.{member-is, member-is-not, member-true, member-false, bit-of-none, lowest-member, left-is, count-left, count-none, insert-other, insert-below, member-nothing}
 use Rattle.catalogue.specs.declared.Catalogue.{Catalogue}
 use Rattle.record.specs.Record.{wellFormed}
 use Rattle.record.specs.declared.Record.{Record}
 use Rattle.record.proofs.Bounds.{some-joined, well-formed-parts}
+use Rattle.search.proofs.Each.{but-at}
+use Rattle.search.proofs.Members.{in-each}
 use Rattle.row.specs.Row.{isPrepare, outstanding, recordOf, withEnd, withAcknowledged}
 use Rattle.row.specs.declared.Row.{Row}
+use Rattle.row.proofs.Laws.{prepare-busy}
 use Rattle.table.specs.Table.{emptyTable, rowAt}
 use Rattle.table.proofs.Laws.{apply-same, apply-other, with-same, with-other}
 use Rattle.log_reader.specs.Records.{allCome}
@@ -30,8 +31,6 @@ use Rattle.runs.specs.History.{Order, Produced, Event, recordAppended, markerWr
 use Rattle.protocol.specs.Entries.{Entry, entriesOf, kindIn, underOf}
 use Rattle.protocol.specs.HistoryInvariant.{HistoryInvariant}
 use Rattle.protocol.specs.NextEvent.{Appendable}
-use Rattle.protocol.proofs.Lists.{in-each, either, but-at}
-use Rattle.protocol.proofs.Statuses.{prepare-busy}
 use Rattle.protocol.proofs.Events.{entry-before, newRecord, appended-records, more-entries, entry-records, marker-records, same-entries}
 use Rattle.protocol.proofs.Entries.{under-next, first-open, under-each}
 use Rattle.protocol.proofs.Consequences.{open-now}
@@ -40,9 +39,6 @@ use Rattle.agreement.proofs.Tables.{place-kept}
 use Rattle.agreement.proofs.Rows.{none-open-at}
 
 -- ---- nothing open, under an event
-
-pub member-nothing : (x : ℕ) → member 0 x ≡ true → ⊥
-member-nothing x m = true≢false (sym m ∙ member-is-not 0 x (bit-of-none x))
 
 pub none-open-kept : (c : Catalogue) (h : History) (e : Event) → producedIn e ≡ [] → ((position pid : ℕ) → kindIn position pid e ≡ 0) → recordsOf (e ∷ h) ≡ recordsOf h → (x k : ℕ)
     → NoneOpen c h (recordsOf h) x k → NoneOpen c (e ∷ h) (recordsOf (e ∷ h)) x k
@@ -155,16 +151,3 @@ module _ (c : Catalogue) (h : History) (t : HistoryInvariant c h) (s : Coordinat
           let one = count-left 64 (old .joined) (old .acknowledged) position small-joined (a .small place) below (member-true (old .joined) position joins) (member-false (old .acknowledged) position new) in
           let zero-left : count (difference (old .joined) (insert (old .acknowledged) position)) ≡ 0 = ap count z ∙ count-none in
           eqb-false (count (outstanding old)) 1 more-left (omega arith)
-
--- the last one outstanding: every other joined position is acknowledged
-pub last-one : (joined acked position : ℕ) → joined < 2 ^ 64 → acked < 2 ^ 64 → position < 64 → member joined position ≡ true → member acked position ≡ false → eqb (count (difference joined acked)) 1 ≡ true
-    → (x : ℕ) → member joined x ≡ true → x ≢ position → member acked x ≡ true
-last-one joined acked position hj ha below joins new last x m n =
-    either (member acked x) (λ e. e)
-    (λ e.
-    let one = count-left 64 joined acked position hj ha below (member-true joined position joins) (member-false acked position new) in
-    let is : count (difference joined acked) ≡ 1 = eqb-true (count (difference joined acked)) 1 last in
-    let small = insert-below 64 acked position ha below in
-    let none-left : difference joined (insert acked position) ≡ 0 = count-zero 64 (difference joined (insert acked position)) (let q = and-le-l joined ((2 ^ 64 - 1) - insert acked position) in omega arith) (omega arith) in
-    let left : member (difference joined (insert acked position)) x ≡ true = left-is 64 joined (insert acked position) hj small x m (member-is-not (insert acked position) x (insert-other acked position x n ∙ member-false acked x e)) in
-    absurd (member-nothing x (subst (λ (y : ℕ). member y x ≡ true) none-left left)))

@@ -1,4 +1,4 @@
--- Ack made in carrying: it is never refused, and completes only when nothing of its name is open.
+-- Ack as it is carried: it is never refused, and completes a prepare only when nothing of its name is open.
 use Prim.Native.Nat.{ℕ, _-_, _<_, _^_}
 use mathlib.Core.Path.{_≡_, refl, sym, ap, subst, _∙_}
 use mathlib.Core.Bool.{true, false}
@@ -8,27 +8,29 @@ use native.Mathlib.Decide.{ℕ-discrete}
 use native.Mathlib.Omega.{arith}
 use lib.IntN.{pos}
 use lib.ListN.{length}
-use borrow.Author.Tests.{le-ltb, leb-true, eq-eqb}
-use Rattle.numbers.proofs.Border.{at-least, eqZ-is}
+use borrow.Author.Tests.{leb-true, eq-eqb}
+use Rattle.numbers.proofs.Border.{at-least, eqZ-is, natural-pos}
 use Rattle.numbers.proofs.Tests.{by-cases}
 use Rattle.bits.specs.Bits.{member}
-use Rattle.bits.proofs.Laws.{member-below}
+use Rattle.bits.proofs.Laws.{member-below, last-left}
 use Rattle.catalogue.specs.declared.Catalogue.{Catalogue}
-use Rattle.catalogue.proofs.Laws.{all-bound, not-refused}
 use Rattle.catalogue.specs.Catalogue.{parse}
+use Rattle.catalogue.proofs.Laws.{all-bound, not-refused}
 use Rattle.record.specs.Record.{wellFormed}
 use Rattle.record.proofs.Bounds.{well-formed-parts}
-use Rattle.row.specs.Row.{free, isPrepare, held, withAcknowledged}
-use Rattle.row.specs.declared.Row.{Row}
+use Rattle.search.proofs.Found.{some-same}
+use Rattle.search.proofs.Members.{In, in-each}
 use Rattle.answers.specs.Refusals.{firstRefusal}
 use Rattle.answers.specs.declared.Answer.the-variants.{Refused}
 use Rattle.answers.proofs.Laws.{none-is, unless-does}
+use Rattle.row.specs.Row.{free, isPrepare, held, withAcknowledged}
+use Rattle.row.specs.declared.Row.{Row}
 use Rattle.table.specs.Table.{rowAt}
-use Rattle.coordinator.specs.Coordinator.{admits, unflushed, keep, acknowledged}
+use Rattle.coordinator.specs.Coordinator.{admits, keep, acknowledged}
 use Rattle.coordinator.specs.Ack.{lastOutstanding, ackTests, ackRowTests, ackAction, ack}
 use Rattle.coordinator.specs.declared.Coordinator.{Coordinator}
-use Rattle.coordinator.proofs.AckCases.{ack-passed}
 use Rattle.coordinator.specs.Calls.{ackCall}
+use Rattle.coordinator.proofs.AckCases.{ack-passed}
 use Rattle.writer.proofs.Decisions.{byCall}
 use Rattle.writer.proofs.Written.{written-admits}
 use Rattle.runs.specs.History.{Order, orderCarried, History, Logged, recordsOf, contents, flushedOf, latestOf}
@@ -37,8 +39,6 @@ use Rattle.runs.proofs.Admitted.{Own}
 use Rattle.protocol.specs.RecordsOfName.{latestIn}
 use Rattle.protocol.specs.Entries.{Entry, entriesOf, underOf}
 use Rattle.protocol.specs.NextEvent.{NothingOpen}
-use Rattle.protocol.proofs.Lists.{In, some-same, in-each}
-use Rattle.protocol.proofs.Statuses.{natural-pos}
 use Rattle.protocol.proofs.TableOfRecords.{come-record}
 use Rattle.protocol.proofs.Events.{carried-records}
 use Rattle.protocol.proofs.Consequences.{for-latest, open-now}
@@ -49,8 +49,9 @@ use Rattle.agreement.proofs.FlushedFirst.{proper, own-place}
 use Rattle.agreement.proofs.LiveTable.{live-ready, live-latest, live-place}
 use Rattle.agreement.proofs.LogSteps.{MayAppend}
 use Rattle.agreement.proofs.Rows.{none-open-at}
-use Rattle.agreement.proofs.Acknowledgements.{none-open-kept, acks-noted, last-one}
+use Rattle.agreement.proofs.Acknowledgements.{none-open-kept, acks-noted}
 use Rattle.agreement.proofs.Preserves.{Preserves, AcknowledgesClosed, none-carried, log-of, acks-of, did}
+use Rattle.agreement.proofs.PreparedRow.{row-flushed, row-small, row-prepares}
 use Rattle.agreement.proofs.Orders.{OrderOnly, order-only-preserves, way-same, prepare-held}
 use Rattle.agreement.proofs.Delivers.{ItsPrepare, its, place-below, position-listed}
 
@@ -78,22 +79,23 @@ module _ (w : World) (i : Invariant w) (s : Coordinator) (u : w .phase ≡ up s)
 
   -- the row of its place is its prepare's
   pub row-is : withAcknowledged row 0 ≡ held (r .content) (r .end)
-  row-is = subst (λ (k : ℕ). withAcknowledged (rowAt (s .table) k) 0 ≡ held (r .content) (r .end)) (live-place c (w .log) s h (log-of w i s u) (i .of-history) (r .content .name) ∙ it .place) (live-latest c (w .log) s h (log-of w i s u) (i .of-history) (r .content .name) r latest-is)
-
-  row-prepares : isPrepare (row .status) ≡ true
-  row-prepares = ap (λ (y : Row). isPrepare (y .status)) row-is ∙ it .is-for .prepare
+  row-is = subst (λ (k : ℕ). withAcknowledged (rowAt (s .table) k) 0 ≡ held (r .content) (r .end)) (live-place c (w .log) s h (log-of w i s u) (i .of-history) (r .content .name) ∙ it .place)
+      (live-latest c (w .log) s h (log-of w i s u) (i .of-history) (r .content .name) r latest-is)
 
   pub row-joins : member (row .joined) (o .position) ≡ true
   row-joins = ap (λ (y : Row). member (y .joined) (o .position)) row-is ∙ it .is-for .position
 
-  row-held : free row ≡ false
-  row-held = prepare-held w i s u k0 row-prepares
-
   formed : wellFormed c (r .content) ≡ true
   formed = come-record c (recordsOf h) (i .of-history .come) r (it .there) .0
 
+  abbrev prepared : isPrepare (row .status) ≡ true
+  prepared = row-prepares w i s u k0 r (it .there) (it .is-for .prepare) row-is
+
+  row-held : free row ≡ false
+  row-held = prepare-held w i s u k0 prepared
+
   pub joined-small : row .joined < 2 ^ 64
-  joined-small = let b = well-formed-parts c (r .content) formed .joined-below in omega (arith, ap (λ (y : Row). y .joined) row-is)
+  joined-small = row-small w i s u k0 r (it .there) (it .is-for .prepare) row-is
 
   pub position-below : o .position < 64
   position-below = member-below 64 (c .all) (o .position) (all-bound (w .text) c (not-refused (w .text) (i .parsed))) (position-listed w i s u o way)
@@ -110,10 +112,9 @@ module _ (w : World) (i : Invariant w) (s : Coordinator) (u : w .phase ≡ up s)
       let (m, m-is, _) = at-least 0 (r .content .epoch) (come-record c (recordsOf h) (i .of-history .come) r (it .there) .1 .epoch-natural) in
       let pid : o .pid ≡ pos (row .pid) = sym (it .is-for .pid) ∙ sym (natural-pos (r .content .pid) n n-is) ∙ ap pos (sym (ap (λ (y : Row). y .pid) row-is)) in
       let epoch : o .epoch ≡ pos (row .epoch) = sym (it .is-for .epoch) ∙ sym (natural-pos (r .content .epoch) m m-is) ∙ ap pos (sym (ap (λ (y : Row). y .epoch) row-is)) in
-      let end : row .end ≡ r .end = ap (λ (y : Row). y .end) row-is in
-      let flushed : unflushed (s .flushed) row ≡ false = le-ltb (s .flushed) (row .end) (let b = leb-true (r .end) (flushedOf h) (it .is-for .flushed) in omega (arith, l .flushed)) in
+      let flushed = row-flushed w i s u k0 r (it .there) (it .is-for .prepare) row-is (leb-true (r .end) (flushedOf h) (it .is-for .flushed)) in
       none-is (ackTests s (length (w .log)) k0 (o .pid) (o .epoch) (o .position))
-      (rw admitted refl, (rw listed refl, (rw (row-held, eqZ-is (o .pid) (pos (row .pid)) pid) refl, (rw (eqZ-is (o .epoch) (pos (row .epoch)) epoch) refl, (flushed, (rw row-prepares refl, (rw row-joins refl, tt)))))))
+      (rw admitted refl, (rw listed refl, (rw (row-held, eqZ-is (o .pid) (pos (row .pid)) pid) refl, (rw (eqZ-is (o .epoch) (pos (row .epoch)) epoch) refl, (flushed, (rw prepared refl, (rw row-joins refl, tt)))))))
 
   -- ---- what it does
 
@@ -125,13 +126,14 @@ module _ (w : World) (i : Invariant w) (s : Coordinator) (u : w .phase ≡ up s)
       let at : placeIn c (recordsOf h) (d .what .name) ≡ k0 = ap (placeIn c (recordsOf h)) same-name ∙ it .place in
       open-now c h (i .of-history) d j z (λ l e b.
       let same : l ≡ r = some-same (sym e ∙ ap (λ (y : List ℕ). latestIn y (recordsOf h)) same-name ∙ latest-is) in
-      let joins : member (row .joined) (d .what .position) ≡ true = ap (λ (y : Row). member (y .joined) (d .what .position)) row-is ∙ sym (ap (λ (y : Logged). member (y .content .joined) (d .what .position)) same) ∙ b .joined in
+      let joins : member (row .joined) (d .what .position) ≡ true = ap (λ (y : Row). member (y .joined) (d .what .position)) row-is
+      ∙ sym (ap (λ (y : Logged). member (y .content .joined) (d .what .position)) same) ∙ b .joined in
       go d j z at joins (ℕ-discrete (d .what .position) (o .position))))
     where
       go : (d : Entry) → In d (entriesOf h) → underOf h d ≡ 0 → placeIn c (recordsOf h) (d .what .name) ≡ k0 → member (row .joined) (d .what .position) ≡ true → Dec (d .what .position ≡ o .position) → ⊥
       go d j z at joins (yes e) = none-open-at c h (recordsOf h) (o .position) k0 n d j e z at
       go d j z at joins (no m) =
-          let acked = last-one (row .joined) (row .acknowledged) (o .position) joined-small (acks-of w i s u .small k0) position-below row-joins (way .waits) last (d .what .position) joins m in
+          let acked = last-left (row .joined) (row .acknowledged) (o .position) joined-small (acks-of w i s u .small k0) position-below row-joins (way .waits) last (d .what .position) joins m in
           none-open-at c h (recordsOf h) (d .what .position) k0 (acks-of w i s u .closed k0 (d .what .position) acked .1) d j refl z at
 
   module _ (n : NoneOpen c h (recordsOf h) (o .position) k0) where
@@ -153,7 +155,7 @@ module _ (w : World) (i : Invariant w) (s : Coordinator) (u : w .phase ≡ up s)
         unless-does (firstRefusal (ackTests s (length (w .log)) k0 (o .pid) (o .epoch) (o .position))) Refused keep _ (AcknowledgesClosed c s h) tt
         (λ e. by-cases (AcknowledgesClosed c s h) (member (row .acknowledged) (o .position)) (λ m. tt)
         (λ m. by-cases (AcknowledgesClosed c s h) (lastOutstanding row) (λ l. tt)
-        (λ l. acks-noted c h (i .of-history) s (acks-of w i s u) k0 (o .position) inside position-below row-prepares joined-small row-joins (way .waits) l n)))
+        (λ l. acks-noted c h (i .of-history) s (acks-of w i s u) k0 (o .position) inside position-below prepared joined-small row-joins (way .waits) l n)))
 
     pub acked : Preserves w (coordinatorDoes (ack s (length (w .log)) k0 (o .pid) (o .epoch) (o .position) .action) s w)
     acked = did w i s u (ack s (length (w .log)) k0 (o .pid) (o .epoch) (o .position) .action) (byCall (ackCall k0 (o .pid) (o .epoch) (o .position)) refl refl) well notes
@@ -169,7 +171,8 @@ preserves-then w v z g o f =
       holds = k .holds;
     }
 
-pub acknowledges-own : (w : World) (i : Invariant w) (s : Coordinator) (u : w .phase ≡ up s) (o : Order) → UnderWay (catalogueOf w) (w .history) s o → NoneOpen (catalogueOf w) (w .history) (recordsOf (w .history)) (o .position) (o .place)
+pub acknowledges-own : (w : World) (i : Invariant w) (s : Coordinator) (u : w .phase ≡ up s) (o : Order) → UnderWay (catalogueOf w) (w .history) s o
+    → NoneOpen (catalogueOf w) (w .history) (recordsOf (w .history)) (o .position) (o .place)
     → Preserves w (coordinatorDoes (ack s (length (w .log)) (o .place) (o .pid) (o .epoch) (o .position) .action) s (withEvent w (orderCarried o)))
 acknowledges-own w i s u o way n =
     let c = catalogueOf w in
@@ -178,4 +181,5 @@ acknowledges-own w i s u o way n =
     let v = withCarrying (withEvent w (orderCarried o)) nothing in
     preserves-then w v (coordinatorDoes (ack s (length (w .log)) (o .place) (o .pid) (o .epoch) (o .position) .action) s (withEvent w (orderCarried o)))
     (order-only-preserves w i (orderCarried o) b tt nothing (none-carried c (orderCarried o ∷ h) (w .phase))) (record { of-log = i .own .of-log; of-words = i .own .of-words })
-    (λ j. acked v j s u o (way-same c h (orderCarried o ∷ h) s o (b .keeps .records) (b .keeps .flushed) way) (none-open-kept c h (orderCarried o) refl (λ position pid. refl) (b .keeps .records) (o .position) (o .place) n))
+    (λ j. acked v j s u o (way-same c h (orderCarried o ∷ h) s o (b .keeps .records) (b .keeps .flushed) way)
+    (none-open-kept c h (orderCarried o) refl (λ position pid. refl) (b .keeps .records) (o .position) (o .place) n))

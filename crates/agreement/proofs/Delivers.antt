@@ -1,6 +1,5 @@
--- Marker made in carrying: it is never refused, writes at most one marker, and leaves nothing open of its place there.
+-- Marker as it is carried: it is never refused, writes at most one marker, and leaves nothing open of its place there.
 use Prim.Native.Nat.{ℕ, _+_, _*_, _-_, _≤_, _<_}
-use Rattle.numbers.proofs.Tests.{not-both}
 use mathlib.Core.Path.{_≡_, refl, sym, ap, subst, _∙_}
 use mathlib.Core.Logic.{_≢_}
 use mathlib.Core.Bool.{Bool, true, false, _&&_}
@@ -15,6 +14,7 @@ use lib.Signed.{ltZ}
 use borrow.Author.Tests.{ltb-true, lt-leb, le-ltb, eq-eqb, ne-eqb, eqb-true, eqb-false}
 use Rattle.numbers.specs.Border.{toNat}
 use Rattle.numbers.specs.Bytes.{laid}
+use Rattle.numbers.proofs.Tests.{not-both, either}
 use Rattle.numbers.proofs.Border.{at-least}
 use Rattle.numbers.proofs.Bytes.{take-through}
 use Rattle.bits.specs.Bits.{member}
@@ -22,13 +22,17 @@ use Rattle.bits.proofs.Laws.{member-is, member-true, subset-from}
 use Rattle.catalogue.specs.declared.Catalogue.{Catalogue}
 use Rattle.record.specs.Record.{wellFormed}
 use Rattle.record.proofs.Bounds.{well-formed-parts}
-use Rattle.row.specs.Row.{held}
+use Rattle.search.proofs.Found.{found-is, found-with}
+use Rattle.search.proofs.Members.{In, each-in, in-each}
+use Rattle.search.proofs.Find.{find-in}
 use Rattle.answers.specs.Limits.{places}
 use Rattle.answers.specs.Refusals.{firstRefusal}
+use Rattle.answers.specs.Answers.{reply}
 use Rattle.answers.proofs.Laws.{none-is}
+use Rattle.row.specs.Row.{held}
+use Rattle.row.proofs.Laws.{prepare-code}
 use Rattle.table.specs.Table.{rowAt}
 use Rattle.log_reader.specs.Records.{tableOf}
-use Rattle.answers.specs.Answers.{reply}
 use Rattle.coordinator.specs.declared.Coordinator.{Coordinator}
 use Rattle.partition.specs.Limits.{entryWords}
 use Rattle.partition.specs.Marker.{markerTests, closed, markerEntry, closeTransaction, marker}
@@ -44,8 +48,6 @@ use Rattle.runs.specs.Demand3.{IsFor}
 use Rattle.protocol.specs.RecordsOfName.{latestIn}
 use Rattle.protocol.specs.Entries.{Entry, entriesOf, underOf}
 use Rattle.protocol.specs.NextEvent.{Markable}
-use Rattle.protocol.proofs.Lists.{found-is, found-with, In, each-in, in-each, find-in, either}
-use Rattle.protocol.proofs.Statuses.{prepare-code}
 use Rattle.protocol.proofs.Cuts.{ending-all}
 use Rattle.protocol.proofs.TableOfRecords.{come-record, table-latest}
 use Rattle.protocol.proofs.Events.{marker-records, same-entries}
@@ -148,7 +150,8 @@ module _ (w : World) (i : Invariant w) (s : Coordinator) (u : w .phase ≡ up s)
       let admitted : admits p (length words) ≡ true = admits-length p (own .reserved) (length words) ∙ eq-eqb (length words) (p .room) (own .room) in
       let (n, n-is) = pid-natural in
       let (m, m-is) = epoch-natural in
-      let row : rowAt (tableOf c (contents (recordsOf h))) k0 ≡ held (r .content) (r .end) = subst (λ (j : ℕ). rowAt (tableOf c (contents (recordsOf h))) j ≡ held (r .content) (r .end)) (its .place) (place-row c (recordsOf h) (i .of-history .come) (i .of-history .ends) (r .content .name) r latest-is) in
+      let row : rowAt (tableOf c (contents (recordsOf h))) k0 ≡ held (r .content) (r .end) = subst (λ (j : ℕ). rowAt (tableOf c (contents (recordsOf h))) j ≡ held (r .content) (r .end)) (its .place)
+      (place-row c (recordsOf h) (i .of-history .come) (i .of-history .ends) (r .content .name) r latest-is) in
       let epochs : producerAt p k0 .pid ≡ toNat (o .pid) → producerAt p k0 .epoch ≤ toNat (o .epoch) = λ e.
       let low = subst (λ (l : List Logged). NotAhead (producerAt p k0) (rowAt (tableOf c (contents l)) k0)) view (all .rows .epochs k (omega arith) k0) in
       let high : producerAt p k0 .epoch ≤ toNat (r .content .epoch) = subst (NotAhead (producerAt p k0)) row low (held-busy c (recordsOf h) (i .of-history .come) r (its .there)) (e ∙ ap toNat (sym (f .pid))) in
@@ -168,7 +171,8 @@ module _ (w : World) (i : Invariant w) (s : Coordinator) (u : w .phase ≡ up s)
         ),
       )
     where
-      fits : (producerAt p k0 .pid ≡ toNat (o .pid) → producerAt p k0 .epoch ≤ toNat (o .epoch)) → (b : Bool) → eqb (producerAt p k0 .pid) (toNat (o .pid)) ≡ b → (b && ltb (toNat (o .epoch)) (producerAt p k0 .epoch)) ≡ false
+      fits : (producerAt p k0 .pid ≡ toNat (o .pid) → producerAt p k0 .epoch ≤ toNat (o .epoch)) → (b : Bool) → eqb (producerAt p k0 .pid) (toNat (o .pid)) ≡ b
+          → (b && ltb (toNat (o .epoch)) (producerAt p k0 .epoch)) ≡ false
       fits g true e = le-ltb (toNat (o .epoch)) (producerAt p k0 .epoch) (g (eqb-true _ _ e))
       fits g false e = refl
 
@@ -183,7 +187,8 @@ module _ (w : World) (i : Invariant w) (s : Coordinator) (u : w .phase ≡ up s)
       leader-preserves w i x below _ (toAcknowledge n o) h still (i .offsets) (i .log-side) (i .acks)
       (record {
         words = i .leaders x .words;
-        rows = rows-same c h (i .of-history) x p (i .leaders x .rows) (partitionAfter (note (toNat (o .coordinator)) k0 (producerAt p k0)) p) (λ k. ap (λ (l : List Producer). getD l k noProducer) (set-getD (p .producers) k0 noProducer)) (omega arith);
+        rows = rows-same c h (i .of-history) x p (i .leaders x .rows) (partitionAfter (note (toNat (o .coordinator)) k0 (producerAt p k0)) p)
+            (λ k. ap (λ (l : List Producer). getD l k noProducer) (set-getD (p .producers) k0 noProducer)) (omega arith);
         coordinator = subst (λ (y : Phase). toNat (o .coordinator) ≤ epochOf y) (sym u) (omega (arith, coordinator-is));
       })
       (λ y m. i .leaders y)
@@ -232,7 +237,8 @@ module _ (w : World) (i : Invariant w) (s : Coordinator) (u : w .phase ≡ up s)
         (subst (λ (y : Phase). AcksSide c y (markerWritten o ∷ h)) (sym u) (acks-kept c h s (markerWritten o) (λ y k m z. none-open-marked c h o y k z) (acks-of w i s u)))
         (record {
           words = new-words;
-          rows = rows-marked c h (i .of-history) o r (its .there) f k0 (its .place) x p (i .leaders x .rows) refl (partitionAfter (write (toNat (o .coordinator)) k0 q four) p) q here others q-shut q-pid q-epoch (omega arith);
+          rows = rows-marked c h (i .of-history) o r (its .there) f k0 (its .place) x p (i .leaders x .rows) refl
+              (partitionAfter (write (toNat (o .coordinator)) k0 q four) p) q here others q-shut q-pid q-epoch (omega arith);
           coordinator = subst (λ (y : Phase). toNat (o .coordinator) ≤ epochOf y) (sym u) (omega (arith, coordinator-is));
         })
         (λ y m. record {
@@ -253,7 +259,8 @@ module _ (w : World) (i : Invariant w) (s : Coordinator) (u : w .phase ≡ up s)
             record {
               for-prepare = found-is (IsFor o h) (its .found) f;
               some-open = λ z. i .leaders x .rows .row-entry k (omega arith) k0 d
-                  (in-each _ (entriesOf h) (λ y j a b g. each-in (λ (y : Entry). y .what .position ≡ o .position → y .what .pid ≡ o .pid → underOf h y ≡ 0 → ⊥) (entriesOf h) y z j a (place-pid c h (i .of-history) o r (its .there) f k0 (its .place) k (omega arith) y j b g) b));
+                  (in-each _ (entriesOf h) (λ y j a b g. each-in (λ (y : Entry). y .what .position ≡ o .position → y .what .pid ≡ o .pid → underOf h y ≡ 0 → ⊥) (entriesOf h) y z j a
+                  (place-pid c h (i .of-history) o r (its .there) f k0 (its .place) k (omega arith) y j b g) b));
             }
 
         four : List ℕ
@@ -271,7 +278,8 @@ module _ (w : World) (i : Invariant w) (s : Coordinator) (u : w .phase ≡ up s)
 
         none-left : NoneOpen c (markerWritten o ∷ h) (recordsOf (markerWritten o ∷ h)) x k0
         none-left =
-            rw (marker-records h o .records, same-entries (markerWritten o) h refl) (in-each _ (entriesOf h) (λ y j a b g. marked-none c h (i .of-history) o r (its .there) f k0 (its .place) k (omega arith) y j a (ap (λ (l : List Logged). placeIn c l (y .what .name)) view ∙ g) b))
+            rw (marker-records h o .records, same-entries (markerWritten o) h refl)
+            (in-each _ (entriesOf h) (λ y j a b g. marked-none c h (i .of-history) o r (its .there) f k0 (its .place) k (omega arith) y j a (ap (λ (l : List Logged). placeIn c l (y .what .name)) view ∙ g) b))
 
   pub delivers-own : (n : ℕ) → Preserves w (leaderDoes x (marker p (length words) k0 (o .pid) (o .epoch) (o .verdict) (o .coordinator) .action) (markerWritten o) (onceDone (reply (marker p (length words) k0 (o .pid) (o .epoch) (o .verdict) (o .coordinator) .answer)) n o) w)
   delivers-own n =

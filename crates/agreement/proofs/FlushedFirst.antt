@@ -1,4 +1,4 @@
--- Rule 12 for every call but Ack: what it appends follows a record that is flushed and no prepare.
+-- Refusal 12 in every call but Ack: what the call appends follows a record of its name that is flushed and is no prepare.
 use Prim.Native.Nat.{ℕ}
 use mathlib.Core.Path.{_≡_, refl, sym, ap, _∙_}
 use mathlib.Core.Bool.{true, false}
@@ -8,10 +8,6 @@ use lib.IntN.{ℤ}
 use lib.ListN.{getD}
 use borrow.Author.Tests.{eqb-false, ltb-true}
 use Rattle.numbers.proofs.Tests.{by-cases, not-both}
-use Rattle.record.specs.declared.Status.{Status}
-use Rattle.row.specs.Row.{free, isBegin, isPrepare}
-use Rattle.row.specs.declared.Row.{Row}
-use Rattle.row.proofs.Laws.{begin-busy, is-begin}
 use Rattle.answers.specs.Limits.{places}
 use Rattle.answers.specs.Refusals.{firstRefusal, Decision}
 use Rattle.answers.specs.declared.Answer.the-variants.{Refused}
@@ -20,6 +16,9 @@ use Rattle.answers.specs.declared.InitAnswer.the-variants.{Refused as InitRefus
 use Rattle.answers.specs.declared.TickAnswer.{TickAnswer}
 use Rattle.answers.specs.declared.TickAnswer.the-variants.{Refused as TickRefused}
 use Rattle.answers.proofs.Laws.{unless-does}
+use Rattle.row.specs.Row.{free, isBegin, isPrepare}
+use Rattle.row.specs.declared.Row.{Row}
+use Rattle.row.proofs.Laws.{begin-busy, begin-unprepared}
 use Rattle.table.specs.Table.{rowAt, placeOf}
 use Rattle.table.proofs.Reserve.{busy-held, Proper}
 use Rattle.table.proofs.Records.{place-own}
@@ -31,12 +30,12 @@ use Rattle.coordinator.specs.End.{endTests, endAction, end}
 use Rattle.coordinator.specs.Tick.{overduePlace, tickTests, tickAccepted, tick}
 use Rattle.coordinator.specs.Flush.{flushTests, flush}
 use Rattle.coordinator.specs.declared.Coordinator.{Coordinator}
+use Rattle.coordinator.specs.Calls.{CoordinatorCall, initCall, addCall, endCall, tickCall, flushCall, ackCall, actionOf}
 use Rattle.coordinator.proofs.Held.{held-row}
 use Rattle.coordinator.proofs.InitCases.{init-passed}
 use Rattle.coordinator.proofs.AddCases.{add-passed}
 use Rattle.coordinator.proofs.EndCases.{end-passed}
 use Rattle.coordinator.proofs.TickCases.{overdue-found}
-use Rattle.coordinator.specs.Calls.{CoordinatorCall, initCall, addCall, endCall, tickCall, flushCall, ackCall, actionOf}
 use Rattle.writer.proofs.Lawful.{Ready}
 use Rattle.runs.specs.World.{isAck}
 
@@ -52,9 +51,6 @@ FlushedFirst s (append place row) = MayFollow s (row .name)
 FlushedFirst s (acknowledge place position) = ⊥
 FlushedFirst s (flushTo n) = Unit {0}
 
-begin-prepare : (s : Status) → isBegin s ≡ true → isPrepare s ≡ false
-begin-prepare s b = ap isPrepare (is-begin s b)
-
 module _ (s : Coordinator) (r : Ready s) where
   pub proper : Proper (s .table .rows)
   proper = plain-proper (s .table) (r .valid .proper)
@@ -63,7 +59,8 @@ module _ (s : Coordinator) (r : Ready s) where
   pub own-place : (k : ℕ) → free (rowAt (s .table) k) ≡ false → placeOf (s .table) (rowAt (s .table) k .name) ≡ k
   own-place k f =
       sym (plain-place (s .table) (rowAt (s .table) k .name))
-      ∙ place-own (unacknowledged (s .table)) (rowAt (s .table) k .name) (r .valid .proper .all) (r .valid .differ) k (λ z. eqb-false (getD (rowAt (s .table) k .name) 0 0) 0 f z) (ap (λ (row : Row). row .name) (plain-row (s .table) k))
+      ∙ place-own (unacknowledged (s .table)) (rowAt (s .table) k .name) (r .valid .proper .all) (r .valid .differ) k (λ z. eqb-false (getD (rowAt (s .table) k .name) 0 0) 0 f z)
+      (ap (λ (row : Row). row .name) (plain-row (s .table) k))
 
   -- over a row that is held
   over : (k : ℕ) → free (rowAt (s .table) k) ≡ false → unflushed (s .flushed) (rowAt (s .table) k) ≡ false → isPrepare (rowAt (s .table) k .status) ≡ false → (name : List ℕ) → name ≡ rowAt (s .table) k .name
@@ -81,7 +78,8 @@ module _ (s : Coordinator) (r : Ready s) where
       let p = init-passed s n name timeout time e in
       by-cases (λ (d : Decision InitAnswer Action). FlushedFirst s (d .action)) (isBegin (rowOf s name .status))
       (λ b. over (placeOfName s name) (begun-held (placeOfName s name) b) (p .flushed) (p .unprepared) (rowOf s name .name) refl)
-      (λ b. by-cases (λ (row : Row). MayFollow s (row .name)) (needsPid (holdsName s name) (rowOf s name)) (λ q. record { flushed = p .flushed; unprepared = p .unprepared }) (λ q. record { flushed = p .flushed; unprepared = p .unprepared })))
+      (λ b. by-cases (λ (row : Row). MayFollow s (row .name)) (needsPid (holdsName s name) (rowOf s name)) (λ q. record { flushed = p .flushed; unprepared = p .unprepared })
+      (λ q. record { flushed = p .flushed; unprepared = p .unprepared })))
 
   add-flushed-first : (n : ℕ) (name : List ℕ) (pid epoch : ℤ) (set : ℕ) (time : ℤ) → FlushedFirst s (add s n name pid epoch set time .action)
   unfolding add addAction addRow
@@ -91,7 +89,8 @@ module _ (s : Coordinator) (r : Ready s) where
       let p = add-passed s n name pid epoch set time e in
       let f = held-row s (proper .all) name (p .named) (p .held) in
       by-cases (FlushedFirst s) (allJoined (rowOf s name) set) (λ j. tt)
-      (λ j. by-cases (λ (row : Row). MayFollow s (row .name)) (isBegin (rowOf s name .status)) (λ b. over (placeOfName s name) f (p .flushed) (p .unprepared) (rowOf s name .name) refl) (λ b. over (placeOfName s name) f (p .flushed) (p .unprepared) (rowOf s name .name) refl)))
+      (λ j. by-cases (λ (row : Row). MayFollow s (row .name)) (isBegin (rowOf s name .status)) (λ b. over (placeOfName s name) f (p .flushed) (p .unprepared) (rowOf s name .name) refl)
+      (λ b. over (placeOfName s name) f (p .flushed) (p .unprepared) (rowOf s name .name) refl)))
 
   end-flushed-first : (n : ℕ) (name : List ℕ) (pid epoch : ℤ) (verdict : ℕ) (time : ℤ) → FlushedFirst s (end s n name pid epoch verdict time .action)
   unfolding end endAction
@@ -106,7 +105,8 @@ module _ (s : Coordinator) (r : Ready s) where
   tick-flushed-first n time =
       unless-does (firstRefusal (tickTests s n)) TickRefused keep (tickAccepted s time) (FlushedFirst s) tt
       (λ e. by-cases (λ (d : Decision TickAnswer Action). FlushedFirst s (d .action)) (ltb place places)
-      (λ l. let o = overdue-found s (clockAt s time) (proper .all) (ltb-true place places l) in over place (begun-held place (o .begins)) (o .flushed) (begin-prepare (rowAt (s .table) place .status) (o .begins)) (rowAt (s .table) place .name) refl)
+      (λ l. let o = overdue-found s (clockAt s time) (proper .all) (ltb-true place places l) in over place (begun-held place (o .begins)) (o .flushed)
+      (begin-unprepared (rowAt (s .table) place .status) (o .begins)) (rowAt (s .table) place .name) refl)
       (λ l. tt))
     where
       place : ℕ

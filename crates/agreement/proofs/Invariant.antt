@@ -1,4 +1,13 @@
--- The invariant of a world: the order side of its history, and that the coordinator's state, the partitions and the order under way agree with it.
+-- The invariant of a world: its history satisfies `HistoryInvariant`, and the state of coordinator and partitions agrees with its history.
+-- Every item of a run keeps it (`Steps`): the events that the item adds may come next, and the state agrees with the longer history. Why:
+-- The log buffer holds the frames of the history's records, and the flushed lengths are equal. A cut leaves the records whose frames are whole in what
+-- is left, and an opening reads exactly these; both are laws of the crate `writer`.
+-- The rows of a partition agree with the open entries at every cut: an entry is open if and only if the row at its name's place is, and has its pid. So
+-- a Marker that meets a closed row or another pid writes nothing and leaves nothing open, and one that meets an open row of its pid may be written.
+-- A name keeps its place at every cut that leaves a record of it, and a name with an open entry has a flushed record: a restart moves none of them.
+-- A position that is acknowledged has nothing open of its place. So the last Ack of a prepare may append the complete record; after an opening nothing
+-- is acknowledged, and nothing has to be known of the acknowledgements from before.
+-- An order under way is for the latest record of its place, a flushed prepare, and its position is not acknowledged: so Marker and Ack accept it.
 use Prim.Native.Nat.{ℕ, _*_, _^_, _≤_, _<_}
 use mathlib.Core.Path.{_≡_}
 use mathlib.Core.Bool.{true, false}
@@ -11,18 +20,18 @@ use Rattle.catalogue.specs.Catalogue.{parse}
 use Rattle.catalogue.specs.Limits.{positions}
 use Rattle.catalogue.specs.declared.Catalogue.{Catalogue}
 use Rattle.record.specs.declared.Record.{Record}
+use Rattle.search.specs.Search.{Each, Found}
 use Rattle.row.specs.Row.{free, isPrepare, outstanding}
 use Rattle.row.specs.declared.Row.{Row}
-use Rattle.search.specs.Search.{Each, Found}
 use Rattle.table.specs.Table.{rowAt, placeOf}
 use Rattle.log_reader.specs.Records.{tableOf, wholeIn}
 use Rattle.coordinator.specs.Coordinator.{logEnd}
 use Rattle.coordinator.specs.declared.Coordinator.{Coordinator}
+use Rattle.writer.proofs.Written.{Written}
 use Rattle.partition.specs.Limits.{entryWords, noPid}
 use Rattle.partition.specs.Partition.{producerAt}
 use Rattle.partition.specs.declared.Partition.{Partition}
 use Rattle.partition.specs.declared.Producer.{Producer}
-use Rattle.writer.proofs.Written.{Written}
 use Rattle.runs.specs.History.{Order, History, Logged, recordsOf, contents, endOf, flushedOf, recordNumbered, wordsOf}
 use Rattle.runs.specs.World.{Leader, Phase, up, down, Carrying, nothing, toDeliver, toAcknowledge, World, catalogueOf, leaderAt}
 use Rattle.runs.specs.Demand3.{IsFor}
@@ -124,7 +133,7 @@ CarryingSide c h (down n before) (toAcknowledge i o) = ⊥
 
 pub record Invariant (w : World) : Type 0 where
   pub parsed : parse (w .text) .refusal ≡ 0
-  -- the order side
+  -- the history
   pub of-history : HistoryInvariant (catalogueOf w) (w .history)
   pub offsets : Each (λ (p : Entry). entryWords * p .what .offset ≡ length (wordsOf (p .what .position) (p .before))) (entriesOf (w .history))
   -- the log side

@@ -1,4 +1,4 @@
--- The live table and the history: the row of a name is its latest record, and what a call appends may come next.
+-- The coordinator's table and the history: the row of a name is its latest record, and the record that a call appends may come next.
 use Prim.Native.Nat.{ℕ, _+_, _<_}
 use mathlib.Core.Path.{_≡_, refl, sym, ap, subst, _∙_}
 use mathlib.Core.Bool.{true, false}
@@ -11,9 +11,11 @@ use borrow.Author.Tests.{eqb-false, ltb-false, le-leb, lt-ltb}
 use Rattle.numbers.proofs.Tests.{not-both}
 use Rattle.catalogue.specs.declared.Catalogue.{Catalogue}
 use Rattle.record.proofs.Bounds.{formed-starts}
+use Rattle.search.proofs.Found.{if-found-cases, option-either}
+use Rattle.search.proofs.Find.{find-in}
+use Rattle.answers.specs.Limits.{places}
 use Rattle.row.specs.Row.{free, isPrepare, held, recordOf, withAcknowledged}
 use Rattle.row.specs.declared.Row.{Row}
-use Rattle.answers.specs.Limits.{places}
 use Rattle.table.specs.Table.{rowAt, placeOf, holds}
 use Rattle.table.specs.declared.Table.{Table}
 use Rattle.table.proofs.Records.{Starts, place-holds}
@@ -26,10 +28,8 @@ use Rattle.writer.proofs.Written.{written-ready, written-end}
 use Rattle.runs.specs.History.{History, Logged, recordsOf, contents, endOf, flushedOf, isFlushed, latestOf, isOf}
 use Rattle.protocol.specs.HistoryInvariant.{HistoryInvariant}
 use Rattle.protocol.specs.NextEvent.{NothingOpen, Appendable}
-use Rattle.protocol.proofs.Lists.{if-found-cases, find-in}
 use Rattle.protocol.proofs.Cuts.{ends-length, latest-name}
 use Rattle.protocol.proofs.TableOfRecords.{come-record, table-latest, table-lacks}
-use Rattle.protocol.proofs.ProducerIds.{option-either}
 use Rattle.agreement.proofs.Invariant.{UpLog, placeIn}
 use Rattle.agreement.proofs.FlushedFirst.{own-place}
 

@@ -1,4 +1,4 @@
--- The log side: what calls, cuts and openings do to it, and what it gives: the log agrees, and what a cut leaves opens again.
+-- The log and the history: what calls, cuts and openings do to them, that the bytes are the records' frames, and that what a cut leaves opens again.
 use Prim.Native.Nat.{ℕ, _≤_}
 use mathlib.Core.Path.{_≡_, refl, sym, ap, subst, _∙_}
 use mathlib.Core.Bool.{true, false}
@@ -9,18 +9,18 @@ use lib.ListN.{length, take}
 use Rattle.catalogue.specs.Catalogue.{parse}
 use Rattle.catalogue.specs.declared.Catalogue.{Catalogue}
 use Rattle.record.specs.declared.Record.{Record}
-use Rattle.row.specs.Row.{isPrepare}
 use Rattle.answers.specs.Answers.{openReply}
+use Rattle.answers.specs.declared.OpenAnswer.the-variants.{Opened}
+use Rattle.row.specs.Row.{isPrepare}
 use Rattle.table.specs.Table.{rowAt, placeOf}
 use Rattle.log_reader.specs.Records.{framesOf, tableOf, wholeIn}
+use Rattle.log_reader.specs.Read.{logRead}
 use Rattle.log_reader.proofs.RecordLaws.{table-length}
 use Rattle.coordinator.specs.Coordinator.{logEnd, unflushed, Action, keep, advance, append, acknowledge as acknowledgeAt, flushTo, appended, acknowledged, after, logAfter}
 use Rattle.coordinator.specs.Open.{opening, takenOver}
 use Rattle.coordinator.specs.declared.Coordinator.{Coordinator}
 use Rattle.coordinator.specs.declared.OpenedLog.{OpenedLog}
 use Rattle.coordinator.proofs.OpenCases.{open-number, opening-taken}
-use Rattle.answers.specs.declared.OpenAnswer.the-variants.{Opened}
-use Rattle.log_reader.specs.Read.{logRead}
 use Rattle.writer.specs.Writer.{openingTyped, outOfOrder}
 use Rattle.writer.proofs.Decisions.{Decided}
 use Rattle.writer.proofs.Lawful.{Lawful}
@@ -127,7 +127,8 @@ module _ (text log : List ℕ) (p : parse text .refusal ≡ 0) (n : ℕ) (h : Hi
       is-flushed : opening text log n epoch first last .state .flushed ≡ flushedOf (logOpened epoch ∷ h)
       is-flushed =
           ap (λ (o : OpenedLog). o .state .flushed) taken ∙ sym (ap (λ (o : OpenedLog). logEnd (o .state)) taken)
-          ∙ written-end c log (opening text log n epoch first last .state) (wholeIn c n (d .records)) w ∙ ap (λ (l : List Record). length (framesOf c l)) (sym (d .left)) ∙ sym (ends-length c (recordsOf h) (t .ends)) ∙ sym (opened-flushed h epoch)
+          ∙ written-end c log (opening text log n epoch first last .state) (wholeIn c n (d .records)) w ∙ ap (λ (l : List Record). length (framesOf c l)) (sym (d .left))
+          ∙ sym (ends-length c (recordsOf h) (t .ends)) ∙ sym (opened-flushed h epoch)
 
   -- what the cut left opens again
   pub down-restarts : (epoch first last : ℤ) → outOfOrder epoch first last ≡ false → openReply (opening text log n epoch first last .answer) .number ≡ 0
@@ -136,5 +137,6 @@ module _ (text log : List ℕ) (p : parse text .refusal ≡ 0) (n : ℕ) (h : Hi
   pub down-agrees : take (endOf (recordsOf h)) log ≡ framesOf c (contents (recordsOf h))
   down-agrees =
       let w = written-taken c log (d .state) (d .records) (d .written) n (pos 0) (pos 0) (pos 0) (d .low) refl in
-      let at : tableOf c (wholeIn c n (d .records)) .end ≡ endOf (recordsOf h) = table-length c (wholeIn c n (d .records)) ∙ ap (λ (l : List Record). length (framesOf c l)) (sym (d .left)) ∙ sym (ends-length c (recordsOf h) (t .ends)) in
+      let at : tableOf c (wholeIn c n (d .records)) .end ≡ endOf (recordsOf h) = table-length c (wholeIn c n (d .records)) ∙ ap (λ (l : List Record). length (framesOf c l)) (sym (d .left))
+      ∙ sym (ends-length c (recordsOf h) (t .ends)) in
       rw (← at, d .left) (w .stands)

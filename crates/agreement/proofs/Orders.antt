@@ -1,4 +1,4 @@
--- Order: what it gives is for its place's latest record, a flushed prepare, and nothing else changes.
+-- Order: the order that it gives is for its place's latest record, a flushed prepare, and nothing else changes.
 use Prim.Native.Nat.{ℕ, _-_, _<_, _^_}
 use mathlib.Core.Path.{_≡_, refl, sym, ap, subst, _∙_}
 use mathlib.Core.Bool.{true, false}
@@ -12,6 +12,7 @@ use mir.Syntax.{w16, w32, w64}
 use borrow.Author.Tests.{ltb-true, ltb-false, le-leb}
 use Rattle.numbers.specs.Border.{signedOf}
 use Rattle.numbers.proofs.Border.{natural-back}
+use Rattle.numbers.proofs.Tests.{either}
 use Rattle.bits.specs.Bits.{Member, member, lowest}
 use Rattle.bits.proofs.Laws.{member-is, lowest-member, left-parts, subset-and, subset-from}
 use Rattle.catalogue.specs.declared.Catalogue.{Catalogue}
@@ -19,11 +20,14 @@ use Rattle.record.specs.Record.{statusCode, wellFormed}
 use Rattle.record.specs.declared.Record.{Record}
 use Rattle.record.proofs.Statuses.{each}
 use Rattle.record.proofs.Bounds.{well-formed-parts}
+use Rattle.search.proofs.Found.{found-is, found-with}
+use Rattle.search.proofs.Members.{In}
+use Rattle.search.proofs.Find.{find-in}
+use Rattle.answers.specs.Limits.{places}
 use Rattle.row.specs.Row.{free, isPrepare, held, outstanding, recordOf}
 use Rattle.row.specs.Steps.{verdictOf}
 use Rattle.row.specs.declared.Row.{Row}
-use Rattle.row.proofs.Laws.{NotNegative, record-back}
-use Rattle.answers.specs.Limits.{places}
+use Rattle.row.proofs.Laws.{NotNegative, record-back, prepare-verdict, prepare-busy}
 use Rattle.table.specs.Table.{rowAt}
 use Rattle.table.proofs.Reserve.{busy-held}
 use Rattle.coordinator.specs.Order.{due, orderPlace, order}
@@ -33,8 +37,6 @@ use Rattle.runs.specs.History.{Order, Event, orderGiven, History, Logged, recor
 use Rattle.runs.specs.World.{Phase, up, down, Carrying, toDeliver, World, catalogueOf, withCarrying, withEvent, orderedRecord, numberOr, orderAnswered}
 use Rattle.runs.specs.Demand3.{IsFor}
 use Rattle.protocol.specs.NextEvent.{MayBeNext}
-use Rattle.protocol.proofs.Lists.{found-is, found-with, In, find-in, either}
-use Rattle.protocol.proofs.Statuses.{prepare-verdict, prepare-busy}
 use Rattle.protocol.proofs.Cuts.{latest-name}
 use Rattle.protocol.proofs.TableOfRecords.{come-record}
 use Rattle.protocol.proofs.AfterPrepare.{latest-last}
@@ -47,7 +49,7 @@ use Rattle.agreement.proofs.LiveTable.{live-ready, live-record-at, Reco
 use Rattle.agreement.proofs.Acknowledgements.{none-open-kept, acks-kept}
 use Rattle.agreement.proofs.Preserves.{Preserves, log-same, log-of, acks-of, idles, unwritten-preserves}
 
--- ---- an event beside records and entries
+-- ---- an event that says something of an order alone
 
 pub record OrderOnly (h : History) (e : Event) : Type 0 where
   pub writes-nothing : WritesNothing h e
@@ -79,7 +81,7 @@ way-same c h v s o r f u =
       waits = u .waits;
     }
 
--- it is good, if it may come and what is carried then is in order
+-- it preserves the invariant, if it may come next and what is carried then agrees
 pub order-only-preserves : (w : World) → Invariant w → (e : Event) → OrderOnly (w .history) e → MayBeNext (catalogueOf w) (w .history) e → (k : Carrying) → CarryingSide (catalogueOf w) (e ∷ w .history) (w .phase) k
     → Preserves w (withCarrying (withEvent w e) k)
 order-only-preserves w i e b m k d =
@@ -151,7 +153,8 @@ module _ (w : World) (i : Invariant w) (s : Coordinator) (u : w .phase ≡ up s)
       let out-small : outstanding row < 2 ^ 64 = let y = joined-small in let l = and-le-l (row .joined) ((2 ^ 64 - 1) - row .acknowledged) in omega arith in
       let small : due row set < 2 ^ 64 = let l = and-le-l (outstanding row) set in omega arith in
       let (below, m, _) = lowest-member (due row set) some small in
-      let inside : Member (lowest (due row set)) (outstanding row) = subset-from (bitAnd set (outstanding row)) (outstanding row) (subset-and set (outstanding row)) (lowest (due row set)) (subst (λ (n : ℕ). Member (lowest (due row set)) n) (and-comm (outstanding row) set) m) in
+      let inside : Member (lowest (due row set)) (outstanding row) = subset-from (bitAnd set (outstanding row)) (outstanding row) (subset-and set (outstanding row)) (lowest (due row set))
+      (subst (λ (n : ℕ). Member (lowest (due row set)) n) (and-comm (outstanding row) set) m) in
       left-parts 64 (row .joined) (row .acknowledged) joined-small (acks-of w i s u .small place) (lowest (due row set)) (member-is (outstanding row) (lowest (due row set)) inside)
 
   number-is : given .for ≡ q .number
@@ -186,7 +189,8 @@ module _ (w : World) (i : Invariant w) (s : Coordinator) (u : w .phase ≡ up s)
   gives : Preserves w (withCarrying (withEvent w (orderGiven given)) (toDeliver (length h) given))
   gives =
       order-only-preserves w i (orderGiven given) order-only (found-is (IsFor given h) found-for is-for) (toDeliver (length h) given)
-      (subst (λ (p : Phase). CarryingSide c (orderGiven given ∷ h) p (toDeliver (length h) given)) (sym u) (way-same c h (orderGiven given ∷ h) s given (given-records h given .records) (given-records h given .flushed) under-way))
+      (subst (λ (p : Phase). CarryingSide c (orderGiven given ∷ h) p (toDeliver (length h) given)) (sym u)
+      (way-same c h (orderGiven given ∷ h) s given (given-records h given .records) (given-records h given .flushed) under-way))
 
 pub orders : (w : World) (i : Invariant w) (s : Coordinator) (u : w .phase ≡ up s) (set : ℕ) → Preserves w (orderAnswered (order s set) s w)
 orders w i s u set =

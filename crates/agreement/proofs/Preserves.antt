@@ -1,5 +1,6 @@
--- A step is good if its history grows lawfully and the invariant holds after it. The coordinator's actions are.
-use Prim.Native.Nat.{ℕ, _+_, _≤_, _<_, _≤_}
+-- A step preserves the invariant if its history grows by events that may come next and the invariant holds after it (`Preserves`). Every action of the
+-- coordinator does, and every event that writes nothing.
+use Prim.Native.Nat.{ℕ, _+_, _≤_, _<_}
 use mathlib.Core.Path.{_≡_, refl, sym, ap, subst, _∙_}
 use mathlib.Core.Bool.{true, false}
 use mathlib.Core.List.{List, [], _∷_}
@@ -17,9 +18,9 @@ use Rattle.coordinator.specs.declared.Coordinator.{Coordinator}
 use Rattle.coordinator.specs.Calls.{CoordinatorCall, callTyped, actionOf}
 use Rattle.writer.proofs.Decisions.{Decided, byCall}
 use Rattle.writer.proofs.Lawful.{Lawful, decided-lawful}
-use Rattle.runs.proofs.Epochs.{epoch-kept}
 use Rattle.runs.specs.History.{Event, recordAppended, logFlushed, History, recordsOf, contents, flushedOf, wordsIn}
 use Rattle.runs.specs.World.{Leader, Phase, up, down, nothing, World, catalogueOf, leaderAt, withCarrying, historyAfter, coordinatorDoes, isAck, Carrying}
+use Rattle.runs.proofs.Epochs.{epoch-kept}
 use Rattle.runs.proofs.Admitted.{Own}
 use Rattle.protocol.specs.Entries.{entriesOf}
 use Rattle.protocol.specs.HistoryInvariant.{HistoryInvariant}
@@ -64,7 +65,8 @@ none-carried c h (up s) = tt
 none-carried c h (down n before) = tt
 
 -- an event that writes no entry
-pub leader-unwritten : (c : Catalogue) (h : History) → HistoryInvariant c h → (e : Event) → WritesNothing h e → ((x : ℕ) → wordsIn x e ≡ []) → (epoch x : ℕ) (l : Leader) → LeaderAgrees c h epoch x l → LeaderAgrees c (e ∷ h) epoch x l
+pub leader-unwritten : (c : Catalogue) (h : History) → HistoryInvariant c h → (e : Event) → WritesNothing h e → ((x : ℕ) → wordsIn x e ≡ []) → (epoch x : ℕ) (l : Leader) → LeaderAgrees c h epoch x l
+    → LeaderAgrees c (e ∷ h) epoch x l
 leader-unwritten c h t e q n epoch x l a =
     record { words = a .words ∙ sym (words-same x e h (n x)); rows = rows-unwritten c h t x (l .partition) (a .rows) e q; coordinator = a .coordinator }
 
@@ -166,7 +168,8 @@ module _ (w : World) (i : Invariant w) where
     acks-after keep l k n = acks-of
     acks-after (advance clock) l k n = acks-rows c h s (after (advance clock) s) (λ j. refl) acks-of
     acks-after (append place row) l (f, p) n =
-        acks-appended c h (i .of-history) s acks-of place row inside (l .none-acknowledged) (subst (λ (y : Catalogue). wellFormed y (recordOf row) ≡ true) (log-of .written .catalogue-is) (l .formed)) (append-may c (w .log) s h log-of (i .of-history) place row l f p)
+        acks-appended c h (i .of-history) s acks-of place row inside (l .none-acknowledged)
+        (subst (λ (y : Catalogue). wellFormed y (recordOf row) ≡ true) (log-of .written .catalogue-is) (l .formed)) (append-may c (w .log) s h log-of (i .of-history) place row l f p)
       where
         inside : place < length (s .table .rows)
         inside =

@@ -1,4 +1,4 @@
--- Produce: what it writes is for a name whose latest record is a flushed BEGIN of that producer, and all agrees after it.
+-- Produce: the entry that it writes is for a name whose latest record is a flushed BEGIN of its producer, and the state agrees after it.
 use Prim.Native.Nat.{ℕ, _+_, _*_, _-_, _≤_, _<_}
 use mathlib.Core.Path.{_≡_, refl, sym, ap, subst, _∙_}
 use mathlib.Core.Logic.{_≢_}
@@ -14,7 +14,7 @@ use borrow.Author.Tests.{ltb-true, ltb-false, le-leb, eq-eqb, ne-eqb}
 use Rattle.numbers.specs.Border.{toNat}
 use Rattle.numbers.specs.Bytes.{laid}
 use Rattle.numbers.specs.Padded.{padded}
-use Rattle.numbers.proofs.Border.{at-least}
+use Rattle.numbers.proofs.Border.{at-least, natural-pos}
 use Rattle.numbers.proofs.Bytes.{take-through}
 use Rattle.numbers.proofs.Tests.{by-cases}
 use Rattle.bits.specs.Bits.{member}
@@ -23,15 +23,17 @@ use Rattle.catalogue.specs.declared.Catalogue.{Catalogue}
 use Rattle.catalogue.proofs.Laws.{all-bound, not-refused}
 use Rattle.record.specs.Limits.{nameMax}
 use Rattle.record.proofs.Bounds.{well-formed-parts}
-use Rattle.row.specs.Row.{isPrepare, held}
-use Rattle.row.specs.declared.Row.{Row}
-use Rattle.row.proofs.Laws.{is-begin}
 use Rattle.search.specs.Search.{Each}
 use Rattle.search.proofs.Each.{each-at}
+use Rattle.search.proofs.Found.{found-is}
+use Rattle.search.proofs.Find.{find-in}
 use Rattle.answers.specs.Limits.{places}
 use Rattle.answers.specs.Refusals.{firstRefusal}
 use Rattle.answers.specs.declared.ProduceAnswer.the-variants.{Refused}
 use Rattle.answers.proofs.Laws.{unless-does}
+use Rattle.row.specs.Row.{isPrepare, held}
+use Rattle.row.specs.declared.Row.{Row}
+use Rattle.row.proofs.Laws.{is-begin}
 use Rattle.table.specs.Table.{rowAt}
 use Rattle.coordinator.specs.Coordinator.{placeOfName, rowOf}
 use Rattle.coordinator.specs.declared.Coordinator.{Coordinator}
@@ -51,8 +53,6 @@ use Rattle.runs.specs.Demand3.{Entitled}
 use Rattle.runs.proofs.Admitted.{Own, OwnWords}
 use Rattle.protocol.specs.Entries.{Entry, entriesOf}
 use Rattle.protocol.specs.NextEvent.{MayBeNext}
-use Rattle.protocol.proofs.Lists.{found-is, find-in}
-use Rattle.protocol.proofs.Statuses.{natural-pos}
 use Rattle.protocol.proofs.TableOfRecords.{come-record}
 use Rattle.protocol.proofs.Events.{entry-records, more-entries}
 use Rattle.protocol.proofs.Extends.{Extends, still, more, extends-keeps}
@@ -107,7 +107,8 @@ leader-preserves w i x b l k v g offsets log-side acks here others carried =
 -- a leader that does nothing
 pub keeps-leader : (w : World) → Invariant w → (x : ℕ) → Preserves w (withLeader w x (leaderAt w x) nothing (w .history))
 keeps-leader w i x =
-    subst (λ (ls : List Leader). Preserves w (record { text = w .text; log = w .log; phase = w .phase; leaders = ls; carrying = nothing; history = w .history })) (sym (set-getD (w .leaders) x (openLeader []))) (idles w i)
+    subst (λ (ls : List Leader). Preserves w (record { text = w .text; log = w .log; phase = w .phase; leaders = ls; carrying = nothing; history = w .history }))
+    (sym (set-getD (w .leaders) x (openLeader []))) (idles w i)
 
 -- a position of the catalogue has a leader
 pub position-below : (w : World) → Invariant w → (position : ℕ) → member (catalogueOf w .all) position ≡ true → position < length (w .leaders)
@@ -225,7 +226,8 @@ module _ (w : World) (i : Invariant w) (s : Coordinator) (u : w .phase ≡ up s)
         (subst (λ (y : Phase). AcksSide c y (entryWritten e ∷ h)) (sym u) (acks-kept c h s (entryWritten e) kept (acks-of w i s u)))
         (record {
           words = new-words;
-          rows = rows-entered c h (i .of-history) x p (i .leaders x .rows) p′ k0 q rows-here rows-there e l is entitled at refl (sym (ap toNat (t .same-pid))) (sym (ap toNat (t .same-epoch))) first-is first-kept (let b = first-is in omega arith) (omega arith) refl;
+          rows = rows-entered c h (i .of-history) x p (i .leaders x .rows) p′ k0 q rows-here rows-there e l is entitled at refl (sym (ap toNat (t .same-pid)))
+              (sym (ap toNat (t .same-epoch))) first-is first-kept (let b = first-is in omega arith) (omega arith) refl;
           coordinator = i .leaders x .coordinator;
         })
         (λ y n. record {
@@ -236,7 +238,8 @@ module _ (w : World) (i : Invariant w) (s : Coordinator) (u : w .phase ≡ up s)
         (none-carried c (entryWritten e ∷ h) (w .phase))
       where
         kept : (y k : ℕ) → member (rowAt (s .table) k .acknowledged) y ≡ true → NoneOpen c h (recordsOf h) y k → NoneOpen c (entryWritten e ∷ h) (recordsOf (entryWritten e ∷ h)) y k
-        kept y k m n = none-open-entered c h e y k (λ a b. true≢false (sym (subst (λ (j : ℕ). isPrepare (rowAt (s .table) j .status) ≡ true) (sym b ∙ at) (acks-of w i s u .closed k y m .0)) ∙ ap isPrepare (is-begin (row .status) (t .begins)))) n
+        kept y k m n = none-open-entered c h e y k (λ a b. true≢false (sym (subst (λ (j : ℕ). isPrepare (rowAt (s .table) j .status) ≡ true) (sym b ∙ at) (acks-of w i s u .closed k y m .0))
+            ∙ ap isPrepare (is-begin (row .status) (t .begins)))) n
 
   pub produces-own : Preserves w (leaderDoes x (produce s p (length words) name pid epoch x sequence payload .action) (entryWritten e) nothing w)
   unfolding produce

@@ -1,4 +1,4 @@
--- A cut, an opening of what it left, and calls that are lent another slice.
+-- A cut, an opening of what it left, and calls that are lent another slice, preserve the invariant.
 use Prim.Native.Nat.{ℕ, _≤_}
 use mathlib.Core.Path.{_≡_, refl, sym, ap, subst, _∙_}
 use mathlib.Core.Bool.{Bool, true, false, _&&_}
@@ -12,6 +12,7 @@ use borrow.Author.Tests.{eqb-true, ne-eqb, leb-true}
 use Rattle.numbers.specs.Border.{toNat}
 use Rattle.numbers.proofs.Border.{at-least}
 use Rattle.numbers.proofs.Tests.{not-both, and-left, and-right}
+use Rattle.bits.proofs.Laws.{member-nothing}
 use Rattle.catalogue.specs.Catalogue.{parse}
 use Rattle.catalogue.specs.declared.Catalogue.{Catalogue}
 use Rattle.answers.specs.Answers.{reply, openReply}
@@ -21,6 +22,7 @@ use Rattle.answers.specs.declared.InitAnswer.the-variants.{Refused as InitRefus
 use Rattle.answers.specs.declared.TickAnswer.the-variants.{Refused as TickRefused}
 use Rattle.answers.specs.declared.ProduceAnswer.the-variants.{Refused as ProduceRefused}
 use Rattle.answers.proofs.Laws.{unless-does}
+use Rattle.row.proofs.Laws.{prepare-busy}
 use Rattle.table.specs.Table.{emptyTable, rowAt}
 use Rattle.table.proofs.Reserve.{busy-held}
 use Rattle.table.proofs.Valid.{Valid}
@@ -36,29 +38,28 @@ use Rattle.coordinator.specs.Ack.{ackTests, ack}
 use Rattle.coordinator.specs.Open.{opening}
 use Rattle.coordinator.specs.declared.Coordinator.{Coordinator}
 use Rattle.coordinator.specs.declared.OpenedLog.{OpenedLog}
+use Rattle.coordinator.specs.Calls.{CoordinatorCall, initCall, addCall, endCall, tickCall, flushCall, ackCall, actionOf}
 use Rattle.coordinator.proofs.InitCases.{init-passed}
 use Rattle.coordinator.proofs.AddCases.{add-passed}
 use Rattle.coordinator.proofs.EndCases.{end-passed}
 use Rattle.coordinator.proofs.TickCases.{tick-passed}
 use Rattle.coordinator.proofs.AckCases.{ack-passed}
 use Rattle.coordinator.proofs.OpenCases.{open-number, opening-taken}
+use Rattle.writer.specs.Writer.{openingTyped}
+use Rattle.writer.proofs.Written.{written-admits}
 use Rattle.partition.specs.Marker.{markerTests, marker}
 use Rattle.partition.specs.Partition.{admits as partitionAdmits, Action as PartitionAction, keep as keepPartition, after as partitionAfter}
 use Rattle.partition.proofs.MarkerCases.{marker-passed, marker-refused}
 use Rattle.partition.proofs.Reserve.{admits-length}
 use Rattle.server.specs.Produce.{produceTests, produce}
 use Rattle.server.proofs.ProduceCases.{produce-passed}
-use Rattle.coordinator.specs.Calls.{CoordinatorCall, initCall, addCall, endCall, tickCall, flushCall, ackCall, actionOf}
-use Rattle.writer.specs.Writer.{openingTyped}
-use Rattle.writer.proofs.Written.{written-admits}
 use Rattle.runs.specs.History.{Order, logCut, logOpened, History, recordsOf, contents}
 use Rattle.runs.specs.World.{Phase, up, down, nothing, World, catalogueOf, leaderAt, coordinatorElsewhere, withPhase, withPartition, onceDone}
 use Rattle.runs.proofs.Leaves.{flush-elsewhere}
-use Rattle.protocol.proofs.Statuses.{prepare-busy}
 use Rattle.protocol.proofs.WritesNothing.{cut-writes-nothing, opened-writes-nothing}
 use Rattle.agreement.proofs.Invariant.{DownLog, LogSide, epochOf, AcksAgree, Invariant}
 use Rattle.agreement.proofs.LogSteps.{cut-may, cut-down, opened-may, opened-up}
-use Rattle.agreement.proofs.Acknowledgements.{member-nothing, fresh-waits}
+use Rattle.agreement.proofs.Acknowledgements.{fresh-waits}
 use Rattle.agreement.proofs.Preserves.{Preserves, log-of, idles, calls, unwritten-preserves}
 use Rattle.agreement.proofs.Produces.{own-at, keeps-leader}
 
@@ -102,7 +103,8 @@ pub reopens : (w : World) (i : Invariant w) (n before : ℕ) (u : w .phase ≡ d
 reopens w i n before u epoch first last typed e =
     let c = catalogueOf w in
     let h = w .history in
-    let accepted : openReply (opening (w .text) (w .log) n epoch first last .answer) .number ≡ 0 = eqb-true _ 0 (and-left (eqb (openReply (opening (w .text) (w .log) n epoch first last .answer) .number) 0) (leZ (pos before) epoch) e) in
+    let accepted : openReply (opening (w .text) (w .log) n epoch first last .answer) .number ≡ 0 = eqb-true _ 0
+    (and-left (eqb (openReply (opening (w .text) (w .log) n epoch first last .answer) .number) 0) (leZ (pos before) epoch) e) in
     let (m, m-is, low) = at-least before epoch (and-right (eqb (openReply (opening (w .text) (w .log) n epoch first last .answer) .number) 0) (leZ (pos before) epoch) e) in
     let d : DownLog c (w .log) n h = subst (λ (p : Phase). LogSide c (w .log) p h) u (i .log-side) in
     let may = opened-may (w .text) (w .log) (i .parsed) n h d (i .of-history) epoch in
@@ -125,12 +127,16 @@ takesLog (ackCall place pid epoch position) = true
 module _ (s : Coordinator) (n : ℕ) (e : admits s n ≡ false) where
   pub call-refused : (c : CoordinatorCall) → takesLog c ≡ true → actionOf c s n ≡ keep
   unfolding init add end tick ack
-  call-refused (initCall name timeout time) b = unless-does (firstRefusal (initTests s n name timeout time)) InitRefused keep (initAccepted s name timeout time) (λ (a : Action). a ≡ keep) refl (λ z. not-both e (init-passed s n name timeout time z .admitted))
-  call-refused (addCall name pid epoch set time) b = unless-does (firstRefusal (addTests s n name pid epoch set time)) Refused keep _ (λ (a : Action). a ≡ keep) refl (λ z. not-both e (add-passed s n name pid epoch set time z .admitted))
-  call-refused (endCall name pid epoch verdict time) b = unless-does (firstRefusal (endTests s n name pid epoch verdict)) Refused keep _ (λ (a : Action). a ≡ keep) refl (λ z. not-both e (end-passed s n name pid epoch verdict time z .admitted))
+  call-refused (initCall name timeout time) b = unless-does (firstRefusal (initTests s n name timeout time)) InitRefused keep (initAccepted s name timeout time) (λ (a : Action). a ≡ keep) refl
+      (λ z. not-both e (init-passed s n name timeout time z .admitted))
+  call-refused (addCall name pid epoch set time) b = unless-does (firstRefusal (addTests s n name pid epoch set time)) Refused keep _ (λ (a : Action). a ≡ keep) refl
+      (λ z. not-both e (add-passed s n name pid epoch set time z .admitted))
+  call-refused (endCall name pid epoch verdict time) b = unless-does (firstRefusal (endTests s n name pid epoch verdict)) Refused keep _ (λ (a : Action). a ≡ keep) refl
+      (λ z. not-both e (end-passed s n name pid epoch verdict time z .admitted))
   call-refused (tickCall time) b = unless-does (firstRefusal (tickTests s n)) TickRefused keep (tickAccepted s time) (λ (a : Action). a ≡ keep) refl (λ z. not-both e (tick-passed s n time z .admitted))
   call-refused (flushCall length) b = not-both refl b
-  call-refused (ackCall place pid epoch position) b = unless-does (firstRefusal (ackTests s n place pid epoch position)) Refused keep _ (λ (a : Action). a ≡ keep) refl (λ z. not-both e (ack-passed s n place pid epoch position z .admitted))
+  call-refused (ackCall place pid epoch position) b = unless-does (firstRefusal (ackTests s n place pid epoch position)) Refused keep _ (λ (a : Action). a ≡ keep) refl
+      (λ z. not-both e (ack-passed s n place pid epoch position z .admitted))
 
 module _ (w : World) (i : Invariant w) (s : Coordinator) (u : w .phase ≡ up s) (n : ℕ) (d : n ≡ length (w .log) → ⊥) where
   pub not-admitted : admits s n ≡ false

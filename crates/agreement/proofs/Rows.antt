@@ -1,4 +1,4 @@
--- The rows of a partition and the entries: what every event keeps that the partition does not write.
+-- The rows of a partition and the entries, after an event that is not written there: a flush, a cut, an opening, an order, a record.
 use Prim.Native.Nat.{ℕ, _≤_, _<_, _^_}
 use mathlib.Core.Path.{_≡_, refl, sym, ap, subst, _∙_}
 use mathlib.Core.Bool.{true, false}
@@ -11,11 +11,14 @@ use mir.Syntax.{w64}
 use borrow.Author.Tests.{leb-true, leb-false, ne-eqb}
 use Rattle.numbers.specs.Border.{toNat}
 use Rattle.numbers.proofs.Border.{natural-below}
+use Rattle.numbers.proofs.Tests.{either}
 use Rattle.catalogue.specs.declared.Catalogue.{Catalogue}
 use Rattle.record.specs.declared.Record.{Record}
 use Rattle.record.proofs.Bounds.{formed-starts, well-formed-parts}
-use Rattle.row.specs.Row.{free, held}
 use Rattle.search.specs.Search.{Each}
+use Rattle.search.proofs.Members.{In, each-in, in-each}
+use Rattle.search.proofs.Find.{find-in}
+use Rattle.row.specs.Row.{free, held}
 use Rattle.table.specs.Table.{emptyTable, rowAt, placeFor}
 use Rattle.log_reader.specs.Records.{tableOf, allCome}
 use Rattle.log_reader.proofs.RecordLaws.{come-newest}
@@ -27,7 +30,6 @@ use Rattle.protocol.specs.RecordsOfName.{latestIn}
 use Rattle.protocol.specs.Entries.{Entry, entriesOf, underOf}
 use Rattle.protocol.specs.HistoryInvariant.{HistoryInvariant}
 use Rattle.protocol.specs.NextEvent.{Appendable}
-use Rattle.protocol.proofs.Lists.{find-in, In, each-in, in-each, either}
 use Rattle.protocol.proofs.Cuts.{ending-stays, ending-drops, ending-all}
 use Rattle.protocol.proofs.TableOfRecords.{come-record, table-latest}
 use Rattle.protocol.proofs.ProducerIds.{PidFrom, fresh, kept, pid-from}
@@ -63,13 +65,15 @@ module _ (c : Catalogue) (h : History) (t : HistoryInvariant c h) where
     pub rows-unwritten : (e : Event) → WritesNothing h e → RowsAgree c (e ∷ h) x p
     rows-unwritten e q =
         record {
-          entry-row = λ k b. let (m, f, v) = q .views k b in
-              rw (v, same-entries e h (q .no-entry)) (under-each h e (q .no-kind) (λ (n : ℕ) (d : Entry). d .what .position ≡ x → n ≡ 0 → Owns (producerAt p (placeIn c (endingBy m (recordsOf h)) (d .what .name))) d) (a .entry-row m f));
-          row-entry = λ k b. let (m, f, v) = q .views k b in
-              rw (v, same-entries e h (q .no-entry)) (λ j o n. a .row-entry m f j o (under-back h e (λ d i. q .no-kind (d .what .position) (toNat (d .what .pid))) (λ (n : ℕ) (d : Entry). d .what .position ≡ x → n ≡ 0 → placeIn c (endingBy m (recordsOf h)) (d .what .name) ≡ j → ⊥) n));
-          epochs = λ k b. let (m, f, v) = q .views k b in rw v (a .epochs m f);
+          entry-row = λ k b. let (m, f, v) = q .earlier-cut k b in
+              rw (v, same-entries e h (q .no-entry)) (under-each h e (q .no-kind)
+              (λ (n : ℕ) (d : Entry). d .what .position ≡ x → n ≡ 0 → Owns (producerAt p (placeIn c (endingBy m (recordsOf h)) (d .what .name))) d) (a .entry-row m f));
+          row-entry = λ k b. let (m, f, v) = q .earlier-cut k b in
+              rw (v, same-entries e h (q .no-entry)) (λ j o n. a .row-entry m f j o
+              (under-back h e (λ d i. q .no-kind (d .what .position) (toNat (d .what .pid))) (λ (n : ℕ) (d : Entry). d .what .position ≡ x → n ≡ 0 → placeIn c (endingBy m (recordsOf h)) (d .what .name) ≡ j → ⊥) n));
+          epochs = λ k b. let (m, f, v) = q .earlier-cut k b in rw v (a .epochs m f);
           firsts = a .firsts;
-          pids = λ k b. let (m, f, v) = q .views k b in rw v (a .pids m f);
+          pids = λ k b. let (m, f, v) = q .earlier-cut k b in rw v (a .pids m f);
         }
 
     -- ---- a record
@@ -90,7 +94,8 @@ module _ (c : Catalogue) (h : History) (t : HistoryInvariant c h) where
           (λ e. rw (ending-drops k new (recordsOf h) (leb-false end k e)) (f k b))
 
       -- an open entry's place stays
-      stays : (k : ℕ) → flushedOf h ≤ k → endingBy k (recordsOf h) ≡ recordsOf h → (d : Entry) → In d (entriesOf h) → underOf h d ≡ 0 → placeIn c (new ∷ recordsOf h) (d .what .name) ≡ placeIn c (recordsOf h) (d .what .name)
+      stays : (k : ℕ) → flushedOf h ≤ k → endingBy k (recordsOf h) ≡ recordsOf h → (d : Entry) → In d (entriesOf h) → underOf h d ≡ 0
+          → placeIn c (new ∷ recordsOf h) (d .what .name) ≡ placeIn c (recordsOf h) (d .what .name)
       stays k b v d j z = open-at c h t k b d j z (λ l e y. place-kept c new (recordsOf h) new-come (t .ends) (d .what .name) l (sym (ap (latestIn (d .what .name)) v) ∙ e))
 
       new-epochs : (k : ℕ) → flushedOf h ≤ k → endingBy k (recordsOf h) ≡ recordsOf h → (j : ℕ) → NotAhead (producerAt p j) (rowAt (tableOf c (contents (new ∷ recordsOf h))) j)
@@ -102,7 +107,8 @@ module _ (c : Catalogue) (h : History) (t : HistoryInvariant c h) where
           known : (i : ℕ) → (producerAt p i .pid ≡ noPid → ⊥) → producerAt p i .pid < tableOf c (contents (recordsOf h)) .next
           known = subst (λ (l : List Logged). (i : ℕ) → (producerAt p i .pid ≡ noPid → ⊥) → producerAt p i .pid < tableOf c (contents l) .next) v (a .pids k b)
 
-          here : (i : ℕ) → i ≡ placeFor (tableOf c (contents (recordsOf h))) (r .name) → PidFrom (tableOf c (contents (recordsOf h)) .next) r (recordsOf h) → producerAt p i .pid ≡ toNat (r .pid) → producerAt p i .epoch ≤ toNat (r .epoch)
+          here : (i : ℕ) → i ≡ placeFor (tableOf c (contents (recordsOf h))) (r .name) → PidFrom (tableOf c (contents (recordsOf h)) .next) r (recordsOf h) → producerAt p i .pid ≡ toNat (r .pid)
+              → producerAt p i .epoch ≤ toNat (r .epoch)
           here i e (fresh pid is above) q =
               let fits : toNat (r .pid) < 2 ^ 63 = natural-below w64 (r .pid) (well-formed-parts c r (w .formed) .pid-fits) in
               let n : producerAt p i .pid ≡ noPid → ⊥ = λ z. omega arith in
@@ -113,7 +119,8 @@ module _ (c : Catalogue) (h : History) (t : HistoryInvariant c h) where
               let (holding, row) = table-latest c (recordsOf h) (t .come) (t .ends) (r .name) starts l s in
               let at : i ≡ placeIn c (recordsOf h) (r .name) = e ∙ rw holding refl in
               let is : rowAt (tableOf c (contents (recordsOf h))) i ≡ held (l .content) (l .end) = ap (rowAt (tableOf c (contents (recordsOf h)))) at ∙ row in
-              let low : producerAt p i .epoch ≤ toNat (l .content .epoch) = subst (NotAhead (producerAt p i)) is (old i) (held-busy c (recordsOf h) (t .come) l (find-in (isOf (r .name)) (recordsOf h) l s)) (q ∙ ap toNat f) in
+              let low : producerAt p i .epoch ≤ toNat (l .content .epoch) = subst (NotAhead (producerAt p i)) is (old i)
+              (held-busy c (recordsOf h) (t .come) l (find-in (isOf (r .name)) (recordsOf h) l s)) (q ∙ ap toNat f) in
               omega arith
 
           go : Dec (j ≡ placeFor (tableOf c (contents (recordsOf h))) (r .name)) → NotAhead (producerAt p j) (rowAt (tableOf c (contents (new ∷ recordsOf h))) j)
@@ -134,13 +141,15 @@ module _ (c : Catalogue) (h : History) (t : HistoryInvariant c h) where
                 k (rw (added .flushed) at b)));
             row-entry = λ k b. rw (added .records, entries)
                 (λ i o n. at-cuts (λ l. (i : ℕ) → producerAt p i .ongoing ≡ true → NoneOpen c h l x i → ⊥) (a .row-entry)
-                (λ m f v i o n. a .row-entry m f i o (in-each _ (entriesOf h) (λ d j u z e. none-open-at c h (new ∷ recordsOf h) x i n d j u z (stays m f v d j z ∙ sym (ap (λ (l : List Logged). placeIn c l (d .what .name)) v) ∙ e))))
+                (λ m f v i o n. a .row-entry m f i o (in-each _ (entriesOf h) (λ d j u z e. none-open-at c h (new ∷ recordsOf h) x i n d j u z
+                (stays m f v d j z ∙ sym (ap (λ (l : List Logged). placeIn c l (d .what .name)) v) ∙ e))))
                 k (rw (added .flushed) at b) i o
                 (under-back h (recordAppended r end) (λ d j. refl) (λ (n : ℕ) (d : Entry). d .what .position ≡ x → n ≡ 0 → placeIn c (endingBy k (new ∷ recordsOf h)) (d .what .name) ≡ i → ⊥) n));
             epochs = λ k b. rw (added .records) (at-cuts (λ l. (i : ℕ) → NotAhead (producerAt p i) (rowAt (tableOf c (contents l)) i)) (a .epochs) new-epochs k (rw (added .flushed) at b));
             firsts = a .firsts;
             pids = λ k b. rw (added .records) (at-cuts (λ l. (i : ℕ) → (producerAt p i .pid ≡ noPid → ⊥) → producerAt p i .pid < tableOf c (contents l) .next) (a .pids)
-                (λ m f v i n. let low : producerAt p i .pid < tableOf c (contents (recordsOf h)) .next = subst (λ (l : List Logged). producerAt p i .pid < tableOf c (contents l) .next) v (a .pids m f i n) in omega (arith, next-rises c new (recordsOf h) new-come)) k (rw (added .flushed) at b));
+                (λ m f v i n. let low : producerAt p i .pid < tableOf c (contents (recordsOf h)) .next = subst (λ (l : List Logged). producerAt p i .pid < tableOf c (contents l) .next) v
+                (a .pids m f i n) in omega (arith, next-rises c new (recordsOf h) new-come)) k (rw (added .flushed) at b));
           }
         where
           added : AddsRecord h r end

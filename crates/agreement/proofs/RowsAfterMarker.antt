@@ -1,4 +1,4 @@
--- The rows of a partition and the entries: what a Marker does at its own partition.
+-- The rows of a partition and the entries: a Marker at its own partition, whether it writes or not.
 use Prim.Native.Nat.{ℕ, _+_, _≤_, _<_}
 use mathlib.Core.Path.{_≡_, refl, sym, ap, subst, _∙_}
 use mathlib.Core.Logic.{_≢_}
@@ -8,8 +8,10 @@ use native.Mathlib.Omega.{arith}
 use lib.Dec.{eqb}
 use borrow.Author.Tests.{eqb-true, eq-eqb}
 use Rattle.numbers.specs.Border.{toNat}
-use Rattle.numbers.proofs.Tests.{and-right, and-both, not-both}
+use Rattle.numbers.proofs.Tests.{and-right, and-both, not-both, either}
 use Rattle.catalogue.specs.declared.Catalogue.{Catalogue}
+use Rattle.search.proofs.Each.{but-at}
+use Rattle.search.proofs.Members.{In, each-in, in-each}
 use Rattle.row.specs.declared.Row.{Row}
 use Rattle.table.specs.Table.{rowAt}
 use Rattle.log_reader.specs.Records.{tableOf}
@@ -21,7 +23,6 @@ use Rattle.runs.specs.History.{Order, markerWritten, History, Logged, endingBy,
 use Rattle.runs.specs.Demand3.{IsFor}
 use Rattle.protocol.specs.Entries.{Entry, entriesOf, underOf}
 use Rattle.protocol.specs.HistoryInvariant.{HistoryInvariant}
-use Rattle.protocol.proofs.Lists.{In, each-in, in-each, either, but-at}
 use Rattle.protocol.proofs.Cuts.{ending-all}
 use Rattle.protocol.proofs.Events.{entry-before, same-entries, marker-records}
 use Rattle.protocol.proofs.Entries.{under-next, under-same, first-open}
@@ -50,7 +51,8 @@ module _ (c : Catalogue) (h : History) (t : HistoryInvariant c h) (o : Order) (r
       let under = under-next (markerWritten o) h d (entry-before h d j) in
       let opened : underOf h d ≡ 0 = first-open (underOf h d) _ (sym under ∙ z) in
       let pid = place-pid k b d j opened e in
-      let hit : hits d ≡ true = and-both (eqb (o .position) (d .what .position)) (eqb (toNat (o .pid)) (toNat (d .what .pid))) (eq-eqb (o .position) (d .what .position) (sym u)) (eq-eqb (toNat (o .pid)) (toNat (d .what .pid)) (ap toNat (sym pid))) in
+      let hit : hits d ≡ true = and-both (eqb (o .position) (d .what .position)) (eqb (toNat (o .pid)) (toNat (d .what .pid))) (eq-eqb (o .position) (d .what .position) (sym u))
+      (eq-eqb (toNat (o .pid)) (toNat (d .what .pid)) (ap toNat (sym pid))) in
       let now : underOf (markerWritten o ∷ h) d ≡ o .verdict + 1 = under ∙ rw (hit, opened) refl in
       omega arith
 
@@ -100,7 +102,8 @@ module _ (c : Catalogue) (h : History) (t : HistoryInvariant c h) (o : Order) (r
       rows-marked =
           record {
             entry-row = λ k b. rw (marker-records h o .records, same-entries (markerWritten o) h refl) (in-each _ (entriesOf h) (λ d j u z.
-                owns-at k (rw (marker-records h o .flushed) at b) d j u (first-open (underOf h d) _ (sym (under-next (markerWritten o) h d (entry-before h d j)) ∙ z)) (λ e. marked-none k (rw (marker-records h o .flushed) at b) d j (u ∙ sym position) e z)));
+                owns-at k (rw (marker-records h o .flushed) at b) d j u (first-open (underOf h d) _ (sym (under-next (markerWritten o) h d (entry-before h d j)) ∙ z))
+                (λ e. marked-none k (rw (marker-records h o .flushed) at b) d j (u ∙ sym position) e z)));
             row-entry = λ k b. rw (marker-records h o .records, same-entries (markerWritten o) h refl) (λ j s m.
                 let n = not-here j s in
                 a .row-entry k (rw (marker-records h o .flushed) at b) j (sym (ap (λ (y : Producer). y .ongoing) (others j n)) ∙ s)

@@ -1,4 +1,4 @@
--- The rows of a partition and the entries: what the partition writes.
+-- The rows of a partition and the entries: an entry written there, and an entry or a marker written elsewhere.
 use Prim.Native.Nat.{ℕ, _≤_, _<_}
 use mathlib.Core.Path.{_≡_, refl, sym, ap, subst, _∙_}
 use mathlib.Core.Logic.{_≢_}
@@ -10,8 +10,11 @@ use native.Mathlib.Omega.{arith}
 use borrow.Author.Tests.{leb-true, ne-eqb}
 use Rattle.numbers.specs.Border.{toNat}
 use Rattle.catalogue.specs.declared.Catalogue.{Catalogue}
-use Rattle.row.specs.declared.Row.{Row}
 use Rattle.search.specs.Search.{Each}
+use Rattle.search.proofs.Each.{but-at}
+use Rattle.search.proofs.Members.{In, each-in, in-each}
+use Rattle.search.proofs.Find.{find-in}
+use Rattle.row.specs.declared.Row.{Row}
 use Rattle.table.specs.Table.{rowAt}
 use Rattle.log_reader.specs.Records.{tableOf}
 use Rattle.partition.specs.Limits.{noPid}
@@ -23,7 +26,6 @@ use Rattle.runs.specs.Demand3.{Entitled}
 use Rattle.protocol.specs.RecordsOfName.{latestIn}
 use Rattle.protocol.specs.Entries.{Entry, entriesOf, underOf}
 use Rattle.protocol.specs.HistoryInvariant.{HistoryInvariant}
-use Rattle.protocol.proofs.Lists.{In, each-in, in-each, find-in, but-at}
 use Rattle.protocol.proofs.Cuts.{latest-settled}
 use Rattle.protocol.proofs.ProducerIds.{pid-below}
 use Rattle.protocol.proofs.Events.{entry-before, newEntry, more-entries, entry-records, same-entries, marker-records}
@@ -51,7 +53,8 @@ module _ (c : Catalogue) (h : History) (t : HistoryInvariant c h) (x : ℕ) (p :
   pub rows-marked-elsewhere : (o : Order) → (o .position ≡ x → ⊥) → RowsAgree c (markerWritten o ∷ h) x p
   rows-marked-elsewhere o n =
       record {
-        entry-row = λ k b. rw (marker-records h o .records, same-entries (markerWritten o) h refl) (in-each _ (entriesOf h) (λ d j u z. open-owns c h x p a k (rw (marker-records h o .flushed) at b) d j u (sym (same d j u) ∙ z)));
+        entry-row = λ k b. rw (marker-records h o .records, same-entries (markerWritten o) h refl)
+            (in-each _ (entriesOf h) (λ d j u z. open-owns c h x p a k (rw (marker-records h o .flushed) at b) d j u (sym (same d j u) ∙ z)));
         row-entry = λ k b. rw (marker-records h o .records, same-entries (markerWritten o) h refl) (λ j s m. a .row-entry k (rw (marker-records h o .flushed) at b) j s (in-each _ (entriesOf h) (λ d i u z e.
             each-in (λ (d : Entry). d .what .position ≡ x → underOf (markerWritten o ∷ h) d ≡ 0 → placeIn c (endingBy k (recordsOf h)) (d .what .name) ≡ j → ⊥) (entriesOf h) d m i u (same d i u ∙ z) e)));
         epochs = λ k b. rw (marker-records h o .records) (a .epochs k (rw (marker-records h o .flushed) at b));
@@ -67,10 +70,14 @@ module _ (c : Catalogue) (h : History) (t : HistoryInvariant c h) (x : ℕ) (p :
   pub rows-entered-elsewhere : (e : Produced) → (e .position ≡ x → ⊥) → RowsAgree c (entryWritten e ∷ h) x p
   rows-entered-elsewhere e n =
       record {
-        entry-row = λ k b. rw (entry-records h e .records, more-entries e h)
-            (λ u z. absurd (n u), under-each h (entryWritten e) (λ position pid. refl) (λ (m : ℕ) (d : Entry). d .what .position ≡ x → m ≡ 0 → Owns (producerAt p (placeIn c (endingBy k (recordsOf h)) (d .what .name))) d) (a .entry-row k (rw (entry-records h e .flushed) at b)));
+        entry-row = λ k b. rw (entry-records h e .records, more-entries e h) (
+          λ u z. absurd (n u),
+          under-each h (entryWritten e) (λ position pid. refl)
+              (λ (m : ℕ) (d : Entry). d .what .position ≡ x → m ≡ 0 → Owns (producerAt p (placeIn c (endingBy k (recordsOf h)) (d .what .name))) d) (a .entry-row k (rw (entry-records h e .flushed) at b)),
+        );
         row-entry = λ k b. rw (entry-records h e .records, more-entries e h)
-            (λ j s m. a .row-entry k (rw (entry-records h e .flushed) at b) j s (under-back h (entryWritten e) (λ d i. refl) (λ (m : ℕ) (d : Entry). d .what .position ≡ x → m ≡ 0 → placeIn c (endingBy k (recordsOf h)) (d .what .name) ≡ j → ⊥) (m .1)));
+            (λ j s m. a .row-entry k (rw (entry-records h e .flushed) at b) j s (under-back h (entryWritten e) (λ d i. refl)
+            (λ (m : ℕ) (d : Entry). d .what .position ≡ x → m ≡ 0 → placeIn c (endingBy k (recordsOf h)) (d .what .name) ≡ j → ⊥) (m .1)));
         epochs = λ k b. rw (entry-records h e .records) (a .epochs k (rw (entry-records h e .flushed) at b));
         firsts = a .firsts;
         pids = λ k b. rw (entry-records h e .records) (a .pids k (rw (entry-records h e .flushed) at b));
@@ -110,8 +117,10 @@ module _ (c : Catalogue) (h : History) (t : HistoryInvariant c h) (x : ℕ) (p :
       rows-entered position =
           record {
             entry-row = λ k b. rw (entry-records h e .records, more-entries e h) (
-              λ u z. subst (λ (m : ℕ). Owns (producerAt p′ m) written) (sym (place-at c h t (e .name) l settled-latest k0 at k (rw (entry-records h e .flushed) at b))) (subst (λ (y : Producer). Owns y written) (sym here) (record { ongoing = ongoing; pid = pid-is; first = first-is })),
-              under-each h (entryWritten e) (λ position pid. refl) (λ (m : ℕ) (d : Entry). d .what .position ≡ x → m ≡ 0 → Owns (producerAt p′ (placeIn c (endingBy k (recordsOf h)) (d .what .name))) d) (in-each _ (entriesOf h) (λ d j. old-owns k (rw (entry-records h e .flushed) at b) d j)),
+              λ u z. subst (λ (m : ℕ). Owns (producerAt p′ m) written) (sym (place-at c h t (e .name) l settled-latest k0 at k (rw (entry-records h e .flushed) at b)))
+                  (subst (λ (y : Producer). Owns y written) (sym here) (record { ongoing = ongoing; pid = pid-is; first = first-is })),
+              under-each h (entryWritten e) (λ position pid. refl) (λ (m : ℕ) (d : Entry). d .what .position ≡ x → m ≡ 0 → Owns
+                  (producerAt p′ (placeIn c (endingBy k (recordsOf h)) (d .what .name))) d) (in-each _ (entriesOf h) (λ d j. old-owns k (rw (entry-records h e .flushed) at b) d j)),
             );
             row-entry = λ k b. rw (entry-records h e .records, more-entries e h) (λ j s m. go k (rw (entry-records h e .flushed) at b) j (ℕ-discrete j k0) s (m .0) (m .1));
             epochs = λ k b. rw (entry-records h e .records) (row-epochs k (rw (entry-records h e .flushed) at b));
@@ -124,7 +133,8 @@ module _ (c : Catalogue) (h : History) (t : HistoryInvariant c h) (x : ℕ) (p :
               → Each (λ (d : Entry). d .what .position ≡ x → underOf (entryWritten e ∷ h) d ≡ 0 → placeIn c (endingBy k (recordsOf h)) (d .what .name) ≡ j → ⊥) (entriesOf h) → ⊥
           go k b j (yes i) s m ms = m position (under-new (entryWritten e) h written (omega arith)) (place-at c h t (e .name) l settled-latest k0 at k b ∙ sym i)
           go k b j (no n) s m ms =
-              a .row-entry k b j (sym (ap (λ (y : Producer). y .ongoing) (others j n)) ∙ s) (under-back h (entryWritten e) (λ d i. refl) (λ (m : ℕ) (d : Entry). d .what .position ≡ x → m ≡ 0 → placeIn c (endingBy k (recordsOf h)) (d .what .name) ≡ j → ⊥) ms)
+              a .row-entry k b j (sym (ap (λ (y : Producer). y .ongoing) (others j n)) ∙ s)
+              (under-back h (entryWritten e) (λ d i. refl) (λ (m : ℕ) (d : Entry). d .what .position ≡ x → m ≡ 0 → placeIn c (endingBy k (recordsOf h)) (d .what .name) ≡ j → ⊥) ms)
 
           changed : (P : ℕ → Producer → Type 0) → P k0 q → ((k : ℕ) → P k (producerAt p k)) → (k : ℕ) → P k (producerAt p′ k)
           changed P = but-at (producerAt p) (producerAt p′) k0 q here others P

@@ -1,4 +1,4 @@
--- The start: the history of an accepted opening is that of the records that stand in the log, and the invariant holds.
+-- The invariant holds at the start: the history of an accepted opening is that of the records that stand in the log.
 use Prim.Native.Nat.{ℕ, zero, suc, _+_, _-_, _≤_}
 use mathlib.Core.Path.{_≡_, refl, sym, ap, subst, _∙_}
 use mathlib.Core.Bool.{true, true≢false}
@@ -20,6 +20,7 @@ use Rattle.record.proofs.Lengths.{frame-length}
 use Rattle.record.proofs.RoundTrip.{reads-alone}
 use Rattle.search.specs.Search.{Each}
 use Rattle.search.proofs.Laws.{repeated}
+use Rattle.search.proofs.Members.{in-each}
 use Rattle.answers.specs.Limits.{places}
 use Rattle.answers.specs.Refusals.{numbersOf, among}
 use Rattle.answers.proofs.Laws.{none-applies}
@@ -32,12 +33,12 @@ use Rattle.coordinator.specs.Coordinator.{logEnd}
 use Rattle.coordinator.specs.Open.{takeOverTests, openTests, opening}
 use Rattle.coordinator.specs.declared.OpenedLog.{OpenedLog}
 use Rattle.coordinator.proofs.OpenCases.{open-number, opening-taken}
-use Rattle.partition.specs.Partition.{openPartition, producerAt, noProducer}
-use Rattle.partition.specs.declared.Producer.{Producer}
 use Rattle.writer.specs.Writer.{AcceptedOpening}
 use Rattle.writer.proofs.Reached.{opened-catalogue}
 use Rattle.writer.proofs.Reopening.{written-opened}
 use Rattle.writer.proofs.Written.{written-end}
+use Rattle.partition.specs.Partition.{openPartition, producerAt, noProducer}
+use Rattle.partition.specs.declared.Producer.{Producer}
 use Rattle.runs.specs.History.{recordAppended, logOpened, History, ordersIn, markersIn, collect, collectWithBefore, recordsOf, contents, endOf, wordsOf}
 use Rattle.runs.specs.World.{openLeader, openLeaders, recordsRead, up, nothing, FirstOpening, Accepted, start}
 use Rattle.runs.specs.Demand3.{Ends}
@@ -45,7 +46,6 @@ use Rattle.runs.proofs.Admitted.{start-own}
 use Rattle.protocol.specs.RecordsOfName.{NumberedBelow}
 use Rattle.protocol.specs.Entries.{entriesOf}
 use Rattle.protocol.specs.HistoryInvariant.{HistoryInvariant}
-use Rattle.protocol.proofs.Lists.{in-each}
 use Rattle.protocol.proofs.Cuts.{numbered-more}
 use Rattle.protocol.proofs.Events.{collect-before-same, collect-same, opened-flushed, same-entries, opened-records}
 use Rattle.agreement.proofs.Invariant.{UpLog, LeaderAgrees, Invariant}
@@ -198,7 +198,8 @@ module _ (o : FirstOpening) (a : Accepted o) where
         written = rw (records, for-contents c (says .records)) w;
         flushed =
             ap (λ (x : OpenedLog). x .state .flushed) taken ∙ sym (ap (λ (x : OpenedLog). logEnd (x .state)) taken)
-            ∙ written-end c (o .log) (opening (o .text) (o .log) (o .length) (o .epoch) (o .first) (o .last) .state) (says .records) w ∙ sym (for-end c (says .records)) ∙ sym (opened-flushed (eventsFor c (says .records)) (o .epoch));
+            ∙ written-end c (o .log) (opening (o .text) (o .log) (o .length) (o .epoch) (o .first) (o .last) .state) (says .records) w ∙ sym (for-end c (says .records))
+            ∙ sym (opened-flushed (eventsFor c (says .records)) (o .epoch));
       }
 
   -- a partition that is just opened

@@ -1,4 +1,4 @@
--- Every item is good: the invariant holds at every moment of every run.
+-- Every item of a run preserves the invariant (`step-preserves`), so it holds at every moment of every run (`always`).
 use Prim.Native.Nat.{ℕ}
 use mathlib.Core.Path.{_≡_, refl, subst, _∙_}
 use mathlib.Core.Bool.{Bool, true, false, cond, not}
@@ -6,8 +6,8 @@ use mathlib.Core.List.{List, [], _∷_}
 use native.Mathlib.Omega.{arith}
 use lib.IntN.{ℤ}
 use lib.ListN.{length}
-use Rattle.numbers.specs.Padded.{padded}
 use borrow.Author.Tests.{not-true}
+use Rattle.numbers.specs.Padded.{padded}
 use Rattle.numbers.proofs.Tests.{not-both, and-left, and-right}
 use Rattle.bits.specs.Bits.{member}
 use Rattle.catalogue.specs.Catalogue.{parse}
@@ -16,10 +16,10 @@ use Rattle.answers.specs.Refusals.{firstRefusal}
 use Rattle.answers.specs.declared.ProduceAnswer.the-variants.{Refused}
 use Rattle.answers.proofs.Laws.{unless-does}
 use Rattle.coordinator.specs.declared.Coordinator.{Coordinator}
+use Rattle.coordinator.specs.Calls.{ackCall, callTyped, actionOf}
 use Rattle.partition.specs.Partition.{Action as PartitionAction, keep as keepPartition}
 use Rattle.server.specs.Produce.{produceTests, produce}
 use Rattle.server.proofs.ProduceCases.{produce-passed}
-use Rattle.coordinator.specs.Calls.{ackCall, callTyped, actionOf}
 use Rattle.runs.specs.History.{entryWritten}
 use Rattle.runs.specs.World.{Phase, up, Carrying, nothing, toDeliver, toAcknowledge, World, catalogueOf, leaderAt, FirstOpening, Accepted, start, own, another, Item, call, callOrder, callProduce, callRead, deliver, acknowledge, cut, reopen, isAck, inLists, leaderDoes, next, step, run}
 use Rattle.runs.proofs.Admitted.{step-own}
@@ -48,7 +48,8 @@ module _ (w : World) (i : Invariant w) where
       outside =
           unfold produce in
           unless-does (firstRefusal (produceTests s (leaderAt w other .partition) (length (leaderAt w other .words)) name pid epoch position sequence)) Refused keepPartition _
-          (λ (a : PartitionAction). Preserves w (leaderDoes other a (entryWritten (record { name = padded nameMax name; pid = pid; epoch = epoch; position = other; sequence = sequence; payload = payload; offset = leaderAt w other .partition .end })) nothing w))
+          (λ (a : PartitionAction). Preserves w (leaderDoes other a (entryWritten
+          (record { name = padded nameMax name; pid = pid; epoch = epoch; position = other; sequence = sequence; payload = payload; offset = leaderAt w other .partition .end })) nothing w))
           (keeps-leader w i other) (λ z. not-both e (produce-passed s (leaderAt w other .partition) (length (leaderAt w other .words)) name pid epoch position sequence payload z .listed))
 
   carrying-of : (s : Coordinator) → w .phase ≡ up s → (k : Carrying) → w .carrying ≡ k → CarryingSide (catalogueOf w) (w .history) (up s) k
@@ -56,7 +57,8 @@ module _ (w : World) (i : Invariant w) where
 
   next-preserves : (x : Item) → inLists x ≡ true → Preserves w (next x w)
   next-preserves (call lent c) t =
-      while-up-cases (Preserves w) w (same w i) _ (λ s u. lent-cases (Preserves w) w (same w i) lent (actionOf c s) s (λ o. calls w i s u c (and-left (callTyped c) (not (isAck c)) t) (not-true (isAck c) (and-right (callTyped c) (not (isAck c)) t))) (λ n d. calls-elsewhere w i s u n d c))
+      while-up-cases (Preserves w) w (same w i) _ (λ s u. lent-cases (Preserves w) w (same w i) lent (actionOf c s) s
+      (λ o. calls w i s u c (and-left (callTyped c) (not (isAck c)) t) (not-true (isAck c) (and-right (callTyped c) (not (isAck c)) t))) (λ n d. calls-elsewhere w i s u n d c))
   next-preserves (callOrder set) t = while-up-cases (Preserves w) w (same w i) _ (λ s u. orders w i s u set)
   next-preserves (callProduce lent other name pid epoch position sequence payload) t =
       while-up-cases (Preserves w) w (same w i) _

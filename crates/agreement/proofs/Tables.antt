@@ -1,4 +1,4 @@
--- Places and rows in the tables of what every cut leaves.
+-- The places and rows of names in the tables of the records that each cut leaves.
 use Prim.Native.Nat.{ℕ, _+_, _≤_}
 use mathlib.Core.Path.{_≡_, refl, sym, ap, subst, _∙_}
 use mathlib.Core.Logic.{_≢_}
@@ -10,9 +10,13 @@ use lib.Dec.{leb}
 use lib.ListN.{length}
 use borrow.Author.Tests.{leb-true, leb-false}
 use Rattle.numbers.proofs.Bytes.{same-true, differ}
+use Rattle.numbers.proofs.Tests.{either}
 use Rattle.catalogue.specs.declared.Catalogue.{Catalogue}
 use Rattle.record.specs.Frame.{frame}
 use Rattle.record.proofs.Bounds.{formed-starts}
+use Rattle.search.proofs.Found.{some-same}
+use Rattle.search.proofs.Members.{In}
+use Rattle.search.proofs.Find.{find-in, find-passes, find-some}
 use Rattle.row.specs.Row.{held}
 use Rattle.row.specs.declared.Row.{Row}
 use Rattle.table.specs.Next.{withRecord}
@@ -28,7 +32,6 @@ use Rattle.runs.specs.Demand3.{Ends}
 use Rattle.protocol.specs.RecordsOfName.{latestIn}
 use Rattle.protocol.specs.Entries.{underOf, entriesOf, Entry}
 use Rattle.protocol.specs.HistoryInvariant.{HistoryInvariant}
-use Rattle.protocol.proofs.Lists.{find-in, find-passes, find-some, either, some-same, In}
 use Rattle.protocol.proofs.Cuts.{ending-stays, ending-drops, ending-in, latest-name}
 use Rattle.protocol.proofs.TableOfRecords.{come-record, table-latest}
 use Rattle.protocol.proofs.Consequences.{open-at, cut-ends, cut-come}
@@ -80,7 +83,8 @@ module _ (c : Catalogue) where
       sym (latest-name a l r i) ∙ ap (λ (row : Row). row .name) rows ∙ latest-name b l q j
 
   -- the row of a name's place
-  pub place-row : (l : List Logged) → allCome c emptyTable (contents l) ≡ true → Ends c l → (name : List ℕ) (r : Logged) → latestIn name l ≡ some r → rowAt (tableOf c (contents l)) (placeIn c l name) ≡ held (r .content) (r .end)
+  pub place-row : (l : List Logged) → allCome c emptyTable (contents l) ≡ true → Ends c l → (name : List ℕ) (r : Logged) → latestIn name l ≡ some r
+      → rowAt (tableOf c (contents l)) (placeIn c l name) ≡ held (r .content) (r .end)
   place-row l e h name r i = table-latest c l e h name (latest-starts l e name r i) r i .1
 
   -- ---- the rows under another record

@@ -1,4 +1,4 @@
--- The words of a partition and its history: the marker that an entry stands under, found in the words as Read finds it, is the one that the history says.
+-- The words of a partition and the history: the marker that Read finds over an entry in the words is the one that the history says.
 use Prim.Native.Nat.{ℕ, zero, suc, _+_, _-_, _*_, _^_, _≤_, _<_}
 use mathlib.Core.Path.{_≡_, refl, sym, ap, subst, _∙_}
 use mathlib.Core.Bool.{Bool, true, false, cond, _&&_}
@@ -9,14 +9,14 @@ use lib.ListN.{length, take, getD, length-append, List·getD-append}
 use lib.Seq.{getD-take, getD-append-add}
 use borrow.Author.Tests.{eq-eqb, leb-true, leb-false}
 use Rattle.numbers.specs.Border.{toNat}
-use Rattle.numbers.proofs.Tests.{by-cases, and-right}
+use Rattle.numbers.proofs.Tests.{by-cases, and-right, either}
 use Rattle.search.specs.Search.{Each}
+use Rattle.search.proofs.Members.{In, in-nil, in-cons}
 use Rattle.partition.specs.Limits.{entryWords}
 use Rattle.partition.specs.Partition.{pidAt, kindAt}
 use Rattle.partition.specs.Read.{isMarker, nextMarker, standsUnder}
 use Rattle.runs.specs.History.{Order, Event, recordAppended, logFlushed, logCut, logOpened, orderGiven, markerWritten, orderCarried, entryWritten, History, eventsBefore, markersIn, collect, collectWithBefore, wordsIn, wordsOf}
 use Rattle.protocol.specs.Entries.{Entry, entriesOf, kindIn, firstOf, markedFrom, underOf}
-use Rattle.protocol.proofs.Lists.{In, in-nil, in-cons, either}
 use Rattle.protocol.proofs.Events.{events-before, entry-before}
 use Rattle.protocol.proofs.Entries.{marked-next, marked-new, first-kept, first-zero}
 
@@ -198,7 +198,8 @@ under-words h fit p i at words end is size =
     let most : length (wordsOf x (eventsBefore n h)) ≤ length (wordsOf x h) = front-length x n h in
     let agree : (j : ℕ) → j < entryWords * end → getD words j 0 ≡ getD (wordsOf x h) j 0 = λ j b. sym (getD-take (entryWords * end) words j 0 b) ∙ ap (λ (l : List ℕ). getD l j 0) is in
     let here-pid : pidAt words o ≡ pid =
-    agree (entryWords * o) (omega arith) ∙ ap (λ (l : List ℕ). getD l (entryWords * o) 0) whole ∙ ap (λ (j : ℕ). getD (before ++ (four ++ rest)) j 0) (at ∙ zero-more (length before)) ∙ getD-append-add before (four ++ rest) 0 0 in
+    agree (entryWords * o) (omega arith) ∙ ap (λ (l : List ℕ). getD l (entryWords * o) 0) whole ∙ ap (λ (j : ℕ). getD (before ++ (four ++ rest)) j 0) (at ∙ zero-more (length before))
+    ∙ getD-append-add before (four ++ rest) 0 0 in
     ap (λ (q : ℕ). nextMarker words q (o + 1) (end - (o + 1))) here-pid
     ∙ next-agree words (wordsOf x h) pid (end - (o + 1)) (o + 1) (λ j b. agree j (omega arith))
     ∙ next-words x pid h fit n (o + 1) (entry-before h p i) long end size

@@ -9,14 +9,18 @@ use lib.Dec.{ltb}
 use borrow.Author.Tests.{lt-ltb, le-ltb}
 use Rattle.numbers.proofs.Border.{at-least}
 use Rattle.numbers.proofs.Bytes.{same-true}
-use Rattle.numbers.proofs.Tests.{and-both}
+use Rattle.numbers.proofs.Tests.{and-both, either}
 use Rattle.catalogue.specs.declared.Catalogue.{Catalogue}
 use Rattle.record.specs.Record.{statusCode, wellFormed}
 use Rattle.record.proofs.Bounds.{well-formed-parts}
-use Rattle.row.specs.Row.{isPrepare, held}
-use Rattle.succession.proofs.Laws.{follows-completes}
 use Rattle.search.specs.Search.{findLast, Each, Found}
 use Rattle.search.proofs.Each.{each-then}
+use Rattle.search.proofs.Found.{some-same, found-is, found-with}
+use Rattle.search.proofs.Members.{In, in-nil, in-cons, each-in}
+use Rattle.search.proofs.Find.{find-nothing, find-hit, find-miss, find-in, last-none, last-here, last-there, last-fails}
+use Rattle.row.specs.Row.{isPrepare, held}
+use Rattle.row.proofs.Laws.{complete-code}
+use Rattle.succession.proofs.Laws.{follows-completes}
 use Rattle.table.specs.Next.{mayCome}
 use Rattle.table.specs.Table.{emptyTable}
 use Rattle.log_reader.specs.Records.{tableOf, allCome}
@@ -24,8 +28,6 @@ use Rattle.log_reader.proofs.RecordLaws.{come-parts}
 use Rattle.runs.specs.History.{Logged, contents, isOf}
 use Rattle.runs.specs.Demand3.{Ends, Completes}
 use Rattle.protocol.specs.RecordsOfName.{latestIn, NumberedBelow}
-use Rattle.protocol.proofs.Lists.{find-nothing, some-same, found-is, In, in-nil, in-cons, each-in, find-hit, find-miss, find-in, found-with, last-none, last-here, last-there, last-fails, either}
-use Rattle.protocol.proofs.Statuses.{complete-code}
 use Rattle.protocol.proofs.Cuts.{is-of, numbered-below}
 use Rattle.protocol.proofs.TableOfRecords.{next-follows, come-record}
 
@@ -73,7 +75,8 @@ after-prepare c n (x ∷ l) e (h, hs) (b, bs) p i prepared =
         either (isOf (p .content .name) x)
         (λ y.
         let name : x .content .name ≡ p .content .name = same-true (x .content .name) (p .content .name) y in
-        completed (found-is (Completes p) (last-here (isAfter p) x l (and-both (ltb (p .number) (x .number)) (isOf (p .content .name) x) (lt-ltb (p .number) (x .number) below) y) none-after) (next-completes c l o hs x w m p (rw name is) prepared)))
+        completed (found-is (Completes p) (last-here (isAfter p) x l (and-both (ltb (p .number) (x .number)) (isOf (p .content .name) x) (lt-ltb (p .number) (x .number) below) y) none-after)
+        (next-completes c l o hs x w m p (rw name is) prepared)))
         (λ y. latest (last-none (isAfter p) x l (rw (y, and-false (ltb (p .number) (x .number)))) none-after) (find-miss (isOf (p .content .name)) x l y ∙ is))
     older o w m j (completed k) = found-with (Completes p) (findLast (isAfter p) l) k (λ y f g. completed (found-is (Completes p) (last-there (isAfter p) x l y f) g))
 

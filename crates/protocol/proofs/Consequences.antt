@@ -12,8 +12,12 @@ use Rattle.numbers.specs.Border.{toNat}
 use Rattle.numbers.proofs.Tests.{and-right}
 use Rattle.catalogue.specs.declared.Catalogue.{Catalogue}
 use Rattle.record.proofs.Bounds.{well-formed-parts}
-use Rattle.row.specs.Row.{isPrepare}
 use Rattle.search.specs.Search.{Each, Found}
+use Rattle.search.proofs.Found.{none-some, found-with}
+use Rattle.search.proofs.Members.{In, each-in}
+use Rattle.search.proofs.Find.{find-in}
+use Rattle.row.specs.Row.{isPrepare}
+use Rattle.row.proofs.Laws.{prepare-code}
 use Rattle.table.specs.Table.{emptyTable}
 use Rattle.log_reader.specs.Records.{allCome}
 use Rattle.runs.specs.History.{Order, Event, History, preparedBefore, numberAfter, markersIn, collect, Logged, endingBy, recordsOf, contents, flushedOf, isOf, nextOf}
@@ -21,8 +25,6 @@ use Rattle.runs.specs.Demand3.{Ends, Completes, IsFor}
 use Rattle.protocol.specs.RecordsOfName.{latestIn, nthPrepare, AtEveryCut}
 use Rattle.protocol.specs.Entries.{Entry, entriesOf, ordinalOf, underOf}
 use Rattle.protocol.specs.HistoryInvariant.{OpenTransaction, Closes, Standing, stillOpen, closed, InTransaction, Marks, AlreadyClosed, HistoryInvariant, MarksPrepare, OfOrdinal}
-use Rattle.protocol.proofs.Lists.{none-some, found-with, In, each-in, find-in}
-use Rattle.protocol.proofs.Statuses.{prepare-code}
 use Rattle.protocol.proofs.Cuts.{ending-in, ending-ends, ending-come, numbered-below, latest-name, latest-settled, every-cut-all}
 use Rattle.protocol.proofs.TableOfRecords.{come-record}
 use Rattle.protocol.proofs.AfterPrepare.{After, latest, completed, after-prepare}

@@ -9,16 +9,18 @@ use lib.Dec.{eqb, leb}
 use lib.ListN.{length, length-append}
 use borrow.Author.Tests.{eq-eqb, ne-eqb, leb-true, leb-false, le-leb, lt-leb}
 use Rattle.numbers.proofs.Bytes.{same-true, same-refl}
-use Rattle.numbers.proofs.Tests.{by-cases}
+use Rattle.numbers.proofs.Tests.{by-cases, either}
 use Rattle.catalogue.specs.declared.Catalogue.{Catalogue}
 use Rattle.search.specs.Search.{find, countWhere, Each}
+use Rattle.search.proofs.Found.{some-same}
+use Rattle.search.proofs.Members.{In, there, in-nil, in-cons, each-in}
+use Rattle.search.proofs.Find.{find-nothing, find-hit, find-miss, find-passes}
 use Rattle.table.specs.Table.{emptyTable}
 use Rattle.log_reader.specs.Records.{framesOf, allCome, wholeIn}
 use Rattle.log_reader.proofs.RecordLaws.{come-parts}
 use Rattle.runs.specs.Demand3.{Ends}
-use Rattle.protocol.specs.RecordsOfName.{latestIn, preparesIn, NumberedBelow, AtEveryCut}
-use Rattle.protocol.proofs.Lists.{find-nothing, some-same, In, there, in-nil, in-cons, each-in, find-hit, find-miss, find-passes, either}
 use Rattle.runs.specs.History.{Logged, endingBy, contents, endOf, isOf, History, recordsOf, flushedOf}
+use Rattle.protocol.specs.RecordsOfName.{latestIn, preparesIn, NumberedBelow, AtEveryCut}
 
 -- ---- what a cut leaves
 

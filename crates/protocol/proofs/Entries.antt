@@ -1,4 +1,4 @@
--- The marker that an entry stands under, as events follow.
+-- The marker that an entry stands under, after one more event.
 use Prim.Native.Nat.{ℕ, zero, suc, _-_, _≤_, _<_}
 use mathlib.Core.Path.{_≡_, refl, sym, ap, subst, _∙_}
 use mathlib.Core.List.{_∷_}
@@ -7,15 +7,10 @@ use lib.ListN.{length}
 use borrow.Author.Tests.{le-leb, lt-leb}
 use Rattle.numbers.specs.Border.{toNat}
 use Rattle.search.specs.Search.{Each}
+use Rattle.search.proofs.Members.{In, each-in, in-each}
+use Rattle.runs.specs.History.{Event, History}
 use Rattle.protocol.specs.Entries.{Entry, entriesOf, kindIn, firstOf, markedFrom, underOf}
-use Rattle.protocol.proofs.Lists.{In, each-in, in-each}
 use Rattle.protocol.proofs.Events.{entry-before}
-use Rattle.runs.specs.History.{Event, History}
-use Prim.Native.Nat.{ℕ, zero, suc, _-_, _≤_, _<_}
-use mathlib.Core.List.{_∷_}
-use borrow.Author.Tests.{le-leb}
-use Rattle.search.specs.Search.{Each}
-use Rattle.runs.specs.History.{Event, History}
 
 module _ (position pid number : ℕ) where
   pub marked-next : (e : Event) (h : History) → number ≤ length h → markedFrom position pid number (e ∷ h) ≡ firstOf (markedFrom position pid number h) (kindIn position pid e)
@@ -56,7 +51,8 @@ under-each h e q P i =
     in-each (λ (p : Entry). P (underOf (e ∷ h) p) p) (entriesOf h)
     (λ p j. subst (λ (n : ℕ). P n p) (sym (under-same e h p (entry-before h p j) (q (p .what .position) (toNat (p .what .pid))))) (each-in (λ (p : Entry). P (underOf h p) p) (entriesOf h) p i j))
 
-pub under-back : (h : History) (e : Event) → ((p : Entry) → In p (entriesOf h) → kindIn (p .what .position) (toNat (p .what .pid)) e ≡ 0) → (P : ℕ → Entry → Type 0) → Each (λ (p : Entry). P (underOf (e ∷ h) p) p) (entriesOf h)
+pub under-back : (h : History) (e : Event) → ((p : Entry) → In p (entriesOf h) → kindIn (p .what .position) (toNat (p .what .pid)) e ≡ 0) → (P : ℕ → Entry → Type 0)
+    → Each (λ (p : Entry). P (underOf (e ∷ h) p) p) (entriesOf h)
     → Each (λ (p : Entry). P (underOf h p) p) (entriesOf h)
 under-back h e q P i =
     in-each (λ (p : Entry). P (underOf h p) p) (entriesOf h)

@@ -1,4 +1,4 @@
--- An entry that may come next keeps the invariant of a history.
+-- An entry that may come next keeps the invariant: it is open at every cut, under a flushed BEGIN.
 use Prim.Native.Nat.{ℕ, suc, _-_, _≤_}
 use mathlib.Core.Path.{_≡_, refl, sym, ap, _∙_}
 use mathlib.Core.Bool.{Bool, true, false, true≢false}
@@ -8,16 +8,18 @@ use native.Mathlib.Omega.{arith}
 use lib.ListN.{length}
 use borrow.Author.Tests.{leb-true}
 use Rattle.catalogue.specs.declared.Catalogue.{Catalogue}
-use Rattle.row.specs.Row.{isPrepare}
 use Rattle.search.specs.Search.{Found, IfFound}
 use Rattle.search.proofs.Each.{each-then}
+use Rattle.search.proofs.Found.{found-is, found-with}
+use Rattle.search.proofs.Members.{In, in-each}
+use Rattle.search.proofs.Find.{find-in}
+use Rattle.row.specs.Row.{isPrepare}
 use Rattle.runs.specs.History.{Order, Produced, entryWritten, History, ordersIn, markersIn, collect, collectWithBefore, Logged, endingBy, recordsOf, flushedOf, isOf, latestOf}
 use Rattle.runs.specs.Demand3.{Entitled}
 use Rattle.protocol.specs.RecordsOfName.{latestIn, preparesIn}
 use Rattle.protocol.specs.Entries.{Entry, entriesOf}
 use Rattle.protocol.specs.HistoryInvariant.{begun, OpenTransaction, Standing, stillOpen, AlreadyClosed, HistoryInvariant, MarksPrepare}
 use Rattle.protocol.specs.NextEvent.{Writable}
-use Rattle.protocol.proofs.Lists.{found-is, found-with, In, in-each, find-in}
 use Rattle.protocol.proofs.Cuts.{numbered-more, latest-settled}
 use Rattle.protocol.proofs.Events.{collect-same, collect-before-same, entry-records, KeepsRecords, more-entries, newEntry}
 use Rattle.protocol.proofs.Entries.{under-new, under-each}

@@ -4,12 +4,12 @@ use mathlib.Core.Path.{_≡_, refl}
 use mathlib.Core.List.{List, [], _∷_, _++_, map}
 use native.Mathlib.Omega.{arith}
 use lib.ListN.{length}
-use Rattle.search.specs.Search.{Each}
-use Rattle.protocol.specs.Entries.{Entry, entriesOf}
-use Rattle.protocol.proofs.Lists.{In, each-in}
-use Rattle.runs.specs.History.{Order, Produced, Event, recordAppended, logFlushed, logOpened, orderGiven, markerWritten, orderCarried, entryWritten, History, eventsBefore, ordersIn, markersIn, producedIn, collect, WithBefore, collectWithBefore, Logged, recordsOf, endOf, flushedOf}
 use lib.IntN.{ℤ}
 use Rattle.record.specs.declared.Record.{Record}
+use Rattle.search.specs.Search.{Each}
+use Rattle.search.proofs.Members.{In, each-in}
+use Rattle.runs.specs.History.{Order, Produced, Event, recordAppended, logFlushed, logOpened, orderGiven, markerWritten, orderCarried, entryWritten, History, eventsBefore, ordersIn, markersIn, producedIn, collect, WithBefore, collectWithBefore, Logged, recordsOf, endOf, flushedOf}
+use Rattle.protocol.specs.Entries.{Entry, entriesOf}
 
 -- the record that an event appends, and the entry that it writes
 abbrev pub newRecord : History → Record → ℕ → Logged

@@ -10,13 +10,15 @@ use lib.ListN.{length}
 use borrow.Author.Tests.{leb-true, leb-false}
 use Rattle.numbers.proofs.Tests.{by-cases, and-left, and-right}
 use Rattle.catalogue.specs.declared.Catalogue.{Catalogue}
-use Rattle.row.specs.Row.{isPrepare}
 use Rattle.search.specs.Search.{Each, IfFound}
+use Rattle.search.proofs.Found.{found-with}
+use Rattle.search.proofs.Members.{In, there, in-cons, in-each}
+use Rattle.search.proofs.Find.{each-filter}
+use Rattle.row.specs.Row.{isPrepare}
 use Rattle.runs.specs.History.{Event, recordAppended, logFlushed, logCut, logOpened, orderGiven, markerWritten, orderCarried, entryWritten, History, Logged, endingBy, recordsOf, flushedOf, isFlushed, isFlushedPrepare, recordNumbered, nextOf, flushedPrepares}
 use Rattle.runs.specs.Demand3.{Completes}
 use Rattle.protocol.specs.HistoryInvariant.{HistoryInvariant}
 use Rattle.protocol.specs.NextEvent.{MayBeNext}
-use Rattle.protocol.proofs.Lists.{found-with, In, there, in-cons, in-each, each-filter}
 use Rattle.protocol.proofs.Cuts.{numbered-found}
 use Rattle.protocol.proofs.AfterPrepare.{After, latest, completed, after-prepare}
 use Rattle.protocol.proofs.Ordinals.{ends-most}
@@ -80,4 +82,5 @@ kept-next c h t r i p = go (after-prepare c (length h) (recordsOf h) (t .come) (
 pub each-flushed-prepare : (h : History) (P : Logged → Type 0) → ((r : Logged) → FlushedIn h r → isPrepare (r .content .status) ≡ true → P r) → Each P (flushedPrepares h)
 each-flushed-prepare h P f =
     each-filter P (isFlushedPrepare h) (recordsOf h)
-    (in-each _ (recordsOf h) (λ r i e. f r (record { stands = i; flushed = leb-true (r .end) (flushedOf h) (and-right (isPrepare (r .content .status)) (isFlushed h r) e) }) (and-left (isPrepare (r .content .status)) (isFlushed h r) e)))
+    (in-each _ (recordsOf h) (λ r i e. f r (record { stands = i; flushed = leb-true (r .end) (flushedOf h) (and-right (isPrepare (r .content .status)) (isFlushed h r) e) })
+    (and-left (isPrepare (r .content .status)) (isFlushed h r) e)))

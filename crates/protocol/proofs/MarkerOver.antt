@@ -1,4 +1,4 @@
--- The marker that an entry stands under, as the history names it, is the first one that the events after the entry wrote.
+-- The marker over an entry as demand 3 states it (`markerOver`) and as the invariant counts it (`underOf`) are the same.
 use Prim.Native.Nat.{ℕ, zero, suc, _+_, _-_, _≤_}
 use mathlib.Core.Path.{_≡_, refl, sym, ap, _∙_}
 use mathlib.Core.Bool.{Bool, true, cond, _&&_}
@@ -9,12 +9,11 @@ use lib.Dec.{eqb, leb}
 use lib.ListN.{length}
 use borrow.Author.Tests.{ne-eqb, leb-true, leb-false}
 use Rattle.numbers.specs.Border.{toNat}
-use Rattle.numbers.proofs.Tests.{by-cases}
+use Rattle.numbers.proofs.Tests.{by-cases, either}
 use Rattle.search.specs.Search.{isFound, found, findLast, orElse, Found}
 use Rattle.runs.specs.History.{Order, Event, recordAppended, logFlushed, logCut, logOpened, orderGiven, markerWritten, orderCarried, entryWritten, History, eventsFrom, markersIn, collect, markerOver}
 use Rattle.runs.specs.InEveryRun.{kindOf}
 use Rattle.protocol.specs.Entries.{Entry, kindIn, firstOf, markedFrom, underOf}
-use Rattle.protocol.proofs.Lists.{either}
 use Rattle.protocol.proofs.Entries.{marked-next, marked-new, first-zero}
 
 -- the kind of the first of two markers

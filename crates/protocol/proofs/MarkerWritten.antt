@@ -1,4 +1,4 @@
--- A marker that may come next keeps the invariant of a history.
+-- A marker that may come next keeps the invariant: what it closes belongs to its prepare, and it is the first for that prepare there.
 use Prim.Native.Nat.{ℕ, zero, suc, _+_, _-_, _≤_}
 use mathlib.Core.Path.{_≡_, refl, sym, ap, subst, _∙_}
 use mathlib.Core.Bool.{Bool, true, false, _&&_, true≢false}
@@ -9,18 +9,21 @@ use lib.Dec.{eqb}
 use lib.ListN.{length}
 use borrow.Author.Tests.{eqb-true, eq-eqb}
 use Rattle.numbers.specs.Border.{toNat}
-use Rattle.numbers.proofs.Tests.{and-left, and-right, and-both}
+use Rattle.numbers.proofs.Tests.{and-left, and-right, and-both, either}
 use Rattle.catalogue.specs.declared.Catalogue.{Catalogue}
-use Rattle.row.specs.Row.{isPrepare}
 use Rattle.search.specs.Search.{countWhere}
 use Rattle.search.proofs.Each.{each-then}
+use Rattle.search.proofs.Laws.{count-first, count-other}
+use Rattle.search.proofs.Found.{found-is, found-with, if-found-is, is-found}
+use Rattle.search.proofs.Members.{In, each-in, in-each}
+use Rattle.search.proofs.Find.{find-in, find-passes}
+use Rattle.row.specs.Row.{isPrepare}
 use Rattle.runs.specs.History.{Order, markerWritten, History, markersIn, collect, Logged, endingBy, recordsOf, flushedOf, recordNumbered, markersFor}
 use Rattle.runs.specs.Demand3.{IsFor}
 use Rattle.protocol.specs.RecordsOfName.{latestIn, nthPrepare}
 use Rattle.protocol.specs.Entries.{Entry, entriesOf, ordinalOf, firstOf, underOf}
 use Rattle.protocol.specs.HistoryInvariant.{Stage, begun, prepared, OpenTransaction, Closes, Standing, stillOpen, closed, AlreadyClosed, HistoryInvariant, MarksPrepare}
 use Rattle.protocol.specs.NextEvent.{Markable}
-use Rattle.protocol.proofs.Lists.{found-is, found-with, if-found-is, In, each-in, in-each, find-in, find-passes, either, count-first, count-other, is-found}
 use Rattle.protocol.proofs.Cuts.{numbered-more, numbered-same}
 use Rattle.protocol.proofs.Events.{entry-before, same-entries, marker-records, KeepsRecords, more-markers, more-orders}
 use Rattle.protocol.proofs.Entries.{under-next, under-same, first-open, first-kept}
@@ -46,7 +49,8 @@ module _ (c : Catalogue) (h : History) (t : HistoryInvariant c h) where
     after-miss p j e = under-same (markerWritten o) h p (entry-before h p j) (rw e)
 
     hit-is : (p : Entry) → p .what .position ≡ o .position → p .what .pid ≡ o .pid → hits p ≡ true
-    hit-is p x y = and-both (eqb (o .position) (p .what .position)) (eqb (toNat (o .pid)) (toNat (p .what .pid))) (eq-eqb (o .position) (p .what .position) (sym x)) (eq-eqb (toNat (o .pid)) (toNat (p .what .pid)) (ap toNat (sym y)))
+    hit-is p x y = and-both (eqb (o .position) (p .what .position)) (eqb (toNat (o .pid)) (toNat (p .what .pid))) (eq-eqb (o .position) (p .what .position) (sym x))
+        (eq-eqb (toNat (o .pid)) (toNat (p .what .pid)) (ap toNat (sym y)))
 
     closes : (k : ℕ) → flushedOf h ≤ k → (p : Entry) → In p (entriesOf h) → hits p ≡ true → Standing (underOf h p) (endingBy k (recordsOf h)) p
         → Standing (firstOf (underOf h p) (o .verdict + 1)) (endingBy k (recordsOf h)) p
@@ -94,7 +98,8 @@ module _ (c : Catalogue) (h : History) (t : HistoryInvariant c h) where
           marks = rw (more-markers o h) (
             marked (λ q r s d. record {
               earlier = let b = number-below c h t q r in omega arith;
-              marked = rw (keeps .records) (in-each _ (recordsOf h) (λ x i e. let z : x ≡ q = numbered-same (length h) (recordsOf h) (t .numbered) x q i r (e ∙ sym s) in rw z (record { prepare = d .prepare; pid = d .pid })));
+              marked = rw (keeps .records) (in-each _ (recordsOf h) (λ x i e. let z : x ≡ q = numbered-same (length h) (recordsOf h) (t .numbered) x q i r (e ∙ sym s) in rw z
+                  (record { prepare = d .prepare; pid = d .pid })));
             }),
             each-then (MarksPrepare h) (MarksPrepare (markerWritten o ∷ h)) (λ m i. record { earlier = omega (arith, i .earlier); marked = rw (keeps .records) (i .marked) }) (collect markersIn h) (t .marks),
           );
@@ -122,11 +127,13 @@ module _ (c : Catalogue) (h : History) (t : HistoryInvariant c h) where
             count-first (λ (x : Order). eqb (x .position) (o .position) && eqb (x .for) (o .for)) o (collect markersIn h)
             (and-both (eqb (o .position) (o .position)) (eqb (o .for) (o .for)) (eq-eqb (o .position) (o .position) refl) (eq-eqb (o .for) (o .for) refl))
             (in-each _ (collect markersIn h) (λ m i. either (eqb (m .position) (o .position) && eqb (m .for) (o .for))
-            (λ e. absurd (none-yet m i (eqb-true (m .position) (o .position) (and-left (eqb (m .position) (o .position)) (eqb (m .for) (o .for)) e)) (eqb-true (m .for) (o .for) (and-right (eqb (m .position) (o .position)) (eqb (m .for) (o .for)) e)))) (λ e. e)))
+            (λ e. absurd (none-yet m i (eqb-true (m .position) (o .position) (and-left (eqb (m .position) (o .position)) (eqb (m .for) (o .for)) e))
+            (eqb-true (m .for) (o .for) (and-right (eqb (m .position) (o .position)) (eqb (m .for) (o .for)) e)))) (λ e. e)))
 
         other-one : (m : Order) → In m (collect markersIn h) → countWhere (λ (x : Order). eqb (x .position) (m .position) && eqb (x .for) (m .for)) (o ∷ collect markersIn h) ≡ 1
         other-one m i =
             count-other (λ (x : Order). eqb (x .position) (m .position) && eqb (x .for) (m .for)) o (collect markersIn h)
             (either (eqb (o .position) (m .position) && eqb (o .for) (m .for))
-            (λ e. absurd (none-yet m i (sym (eqb-true (o .position) (m .position) (and-left (eqb (o .position) (m .position)) (eqb (o .for) (m .for)) e))) (sym (eqb-true (o .for) (m .for) (and-right (eqb (o .position) (m .position)) (eqb (o .for) (m .for)) e))))) (λ e. e))
+            (λ e. absurd (none-yet m i (sym (eqb-true (o .position) (m .position) (and-left (eqb (o .position) (m .position)) (eqb (o .for) (m .for)) e)))
+            (sym (eqb-true (o .for) (m .for) (and-right (eqb (o .position) (m .position)) (eqb (o .for) (m .for)) e))))) (λ e. e))
             ∙ each-in (λ (m : Order). markersFor m h ≡ 1) (collect markersIn h) m (t .one-marker) i

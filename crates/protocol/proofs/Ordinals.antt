@@ -7,14 +7,16 @@ use mathlib.Core.Option.{Option, some}
 use native.Mathlib.Omega.{arith}
 use lib.Dec.{eqb, leb}
 use borrow.Author.Tests.{eqb-true, eqb-false, eq-eqb, ne-eqb}
-use Rattle.numbers.proofs.Tests.{by-cases, not-both, and-left, and-both}
+use Rattle.numbers.proofs.Tests.{by-cases, not-both, and-left, and-both, either}
 use Rattle.catalogue.specs.declared.Catalogue.{Catalogue}
-use Rattle.row.specs.Row.{isPrepare}
 use Rattle.search.specs.Search.{find, countWhere, Found}
+use Rattle.search.proofs.Found.{none-some, some-same}
+use Rattle.search.proofs.Members.{In, here, there, in-nil, in-cons, each-in}
+use Rattle.search.proofs.Find.{find-nothing, find-hit, find-miss}
+use Rattle.row.specs.Row.{isPrepare}
 use Rattle.runs.specs.History.{Logged, endingBy, endOf, isOf}
 use Rattle.runs.specs.Demand3.{Ends}
 use Rattle.protocol.specs.RecordsOfName.{latestIn, isPrepareOf, preparesIn, nthPrepare, NumberedBelow}
-use Rattle.protocol.proofs.Lists.{find-nothing, none-some, some-same, In, here, there, in-nil, in-cons, each-in, find-hit, find-miss, either}
 use Rattle.protocol.proofs.Cuts.{ending-in, numbered-below}
 
 module _ (name : List ℕ) where

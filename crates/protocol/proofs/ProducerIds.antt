@@ -1,20 +1,24 @@
--- Pids: every pid in a log is below the table's next one, and no two names have one.
+-- Producer ids: each one in a log is below the table's next one, and no two names have the same.
 use Prim.Native.Nat.{ℕ, _+_, _≤_, _<_, _^_, max}
 use mathlib.Core.Path.{_≡_, refl, sym, ap, subst, _∙_}
 use mathlib.Core.Bool.{true}
 use mathlib.Core.List.{List, [], _∷_}
-use mathlib.Core.Option.{Option, none, some}
+use mathlib.Core.Option.{some}
 use native.Mathlib.Omega.{arith}
 use lib.IntN.{pos}
 use lib.ListN.{length}
 use mir.Syntax.{w64}
 use Rattle.numbers.specs.Border.{toNat}
 use Rattle.numbers.proofs.Border.{natural-below}
+use Rattle.numbers.proofs.Tests.{not-both}
 use Rattle.catalogue.specs.declared.Catalogue.{Catalogue}
 use Rattle.record.specs.Frame.{frame}
 use Rattle.record.specs.Record.{wellFormed}
 use Rattle.record.specs.declared.Record.{Record}
 use Rattle.record.proofs.Bounds.{formed-starts, well-formed-parts}
+use Rattle.search.proofs.Members.{In, in-nil, in-cons}
+use Rattle.search.proofs.Find.{find-in}
+use Rattle.search.proofs.Found.{option-either}
 use Rattle.row.specs.Row.{held}
 use Rattle.row.specs.declared.Row.{Row}
 use Rattle.succession.specs.Succession.{follows}
@@ -23,13 +27,11 @@ use Rattle.table.specs.Next.{mayCome}
 use Rattle.table.specs.Table.{emptyTable, above}
 use Rattle.table.proofs.Laws.{come-either}
 use Rattle.table.proofs.Records.{record-next}
-use Rattle.numbers.proofs.Tests.{not-both}
 use Rattle.log_reader.specs.Records.{tableOf, allCome}
 use Rattle.log_reader.proofs.RecordLaws.{come-parts, table-newest}
 use Rattle.runs.specs.History.{Logged, contents, isOf}
 use Rattle.runs.specs.Demand3.{Ends}
 use Rattle.protocol.specs.RecordsOfName.{latestIn}
-use Rattle.protocol.proofs.Lists.{In, in-nil, in-cons, find-in}
 use Rattle.protocol.proofs.Cuts.{latest-name}
 use Rattle.protocol.proofs.TableOfRecords.{come-record, table-latest, table-lacks}
 
@@ -39,10 +41,6 @@ use Rattle.protocol.proofs.TableOfRecords.{come-record, table-latest, t
 pub data PidFrom (next : ℕ) (x : Record) (l : List Logged) : Type 0 where
   fresh : (pid : ℕ) → x .pid ≡ pos pid → next ≤ pid → PidFrom next x l
   kept : (r : Logged) → latestIn (x .name) l ≡ some r → x .pid ≡ r .content .pid → toNat (r .content .epoch) ≤ toNat (x .epoch) → PidFrom next x l
-
-pub option-either : {A : Type 0} {X : Type 0} (o : Option A) → (o ≡ none → X) → ((x : A) → o ≡ some x → X) → X
-option-either none f g = f refl
-option-either (some x) f g = g x refl
 
 pub pid-from : (c : Catalogue) (l : List Logged) → allCome c emptyTable (contents l) ≡ true → Ends c l → (x : Record) → wellFormed c x ≡ true → mayCome (tableOf c (contents l)) x ≡ true
     → PidFrom (tableOf c (contents l) .next) x l
@@ -72,7 +70,8 @@ module _ (c : Catalogue) where
   pid-below (x ∷ l) e r i =
       let (o, w, m) = come-parts c emptyTable (x .content) (contents l) e in
       let t = tableOf c (contents l) in
-      let next : tableOf c (contents (x ∷ l)) .next ≡ max (t .next) (above (toNat (x .content .pid))) = rw (table-newest c emptyTable (x .content) (contents l)) (record-next t (x .content) (t .end + length (frame c (x .content)))) in
+      let next : tableOf c (contents (x ∷ l)) .next ≡ max (t .next) (above (toNat (x .content .pid))) = rw (table-newest c emptyTable (x .content) (contents l))
+      (record-next t (x .content) (t .end + length (frame c (x .content)))) in
       let fits : toNat (x .content .pid) < 2 ^ 63 = natural-below w64 (x .content .pid) (well-formed-parts c (x .content) w .pid-fits) in
       in-cons i (λ q. subst (λ (y : Logged). toNat (y .content .pid) < tableOf c (contents (x ∷ l)) .next) q (rw next (omega arith)))
       (λ j. let b = pid-below l o r j in rw next (omega arith))

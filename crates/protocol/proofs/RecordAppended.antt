@@ -1,4 +1,4 @@
--- A record that may come next keeps the invariant of a history.
+-- A record that may come next keeps the invariant: an entry of its name that is open then belongs to the prepare that comes, and to no earlier one.
 use Prim.Native.Nat.{ℕ, suc, _-_, _≤_, _<_}
 use mathlib.Core.Path.{_≡_, refl, sym, ap, subst, _∙_}
 use mathlib.Core.Bool.{Bool, true, false, _&&_, true≢false}
@@ -10,17 +10,22 @@ use lib.IntN.{pos}
 use lib.ListN.{length}
 use borrow.Author.Tests.{leb-true, leb-false, le-leb}
 use Rattle.numbers.specs.Border.{toNat}
-use Rattle.numbers.proofs.Tests.{and-left, and-right, and-both}
+use Rattle.numbers.proofs.Tests.{and-left, and-right, and-both, either, not-both}
 use Rattle.numbers.proofs.Bytes.{same-true}
+use Rattle.numbers.proofs.Border.{natural-pos}
+use Rattle.bits.proofs.Laws.{member-is, member-true, subset-from}
 use Rattle.catalogue.specs.declared.Catalogue.{Catalogue}
 use Rattle.record.specs.declared.Record.{Record}
 use Rattle.record.specs.declared.Status.the-variants.{Begin}
 use Rattle.record.specs.Record.{idle}
-use Rattle.bits.proofs.Laws.{member-is, member-true, subset-from}
-use Rattle.row.specs.Row.{isPrepare, held}
-use Rattle.succession.proofs.Laws.{Move, raising, renewing, beginning, widening, committing, aborting, completing, follows-move}
 use Rattle.search.specs.Search.{Each}
 use Rattle.search.proofs.Each.{each-then}
+use Rattle.search.proofs.Found.{found-is, found-with, if-found-is}
+use Rattle.search.proofs.Members.{In, each-in, in-each}
+use Rattle.search.proofs.Find.{find-hit, find-miss, find-in}
+use Rattle.row.specs.Row.{isPrepare, held}
+use Rattle.row.proofs.Laws.{prepare-code, prepare-busy}
+use Rattle.succession.proofs.Laws.{Move, raising, renewing, beginning, widening, committing, aborting, completing, follows-move}
 use Rattle.table.specs.Table.{emptyTable}
 use Rattle.log_reader.specs.Records.{tableOf}
 use Rattle.log_reader.proofs.RecordLaws.{come-newest}
@@ -29,8 +34,6 @@ use Rattle.protocol.specs.RecordsOfName.{latestIn, isPrepareOf, prepares
 use Rattle.protocol.specs.Entries.{Entry, entriesOf, ordinalOf, underOf}
 use Rattle.protocol.specs.HistoryInvariant.{Stage, begun, prepared, OpenTransaction, Closes, Standing, stillOpen, closed, InTransaction, AlreadyClosed, HistoryInvariant, MarksPrepare}
 use Rattle.protocol.specs.NextEvent.{NothingOpen, Appendable}
-use Rattle.protocol.proofs.Lists.{found-is, found-with, if-found-is, In, each-in, in-each, find-hit, find-miss, find-in, either}
-use Rattle.protocol.proofs.Statuses.{prepare-code, prepare-idle, natural-pos}
 use Rattle.protocol.proofs.Cuts.{ending-stays, ending-drops, prepares-other, is-of}
 use Rattle.protocol.proofs.TableOfRecords.{next-follows}
 use Rattle.protocol.proofs.AfterPrepare.{next-completes}
@@ -72,9 +75,10 @@ module _ (c : Catalogue) (h : History) (t : HistoryInvariant c h) where
 
         not-idle : Stage p (recordsOf h) l → idle (l .content .status) ≡ true → ⊥
         not-idle (begun s q) i = let k : true ≡ false = sym i ∙ ap idle s in true≢false k
-        not-idle (prepared s q u) i = prepare-idle (l .content .status) s i
+        not-idle (prepared s q u) i = not-both (prepare-busy (l .content .status) s) i
 
-        to-prepare : isPrepare (r .status) ≡ true → r .joined ≡ l .content .joined → r .pid ≡ pos (toNat (l .content .pid)) → l .content .status ≡ Begin → Stage p (recordsOf h) l → OpenTransaction p (new ∷ recordsOf h) new
+        to-prepare : isPrepare (r .status) ≡ true → r .joined ≡ l .content .joined → r .pid ≡ pos (toNat (l .content .pid)) → l .content .status ≡ Begin → Stage p (recordsOf h) l
+            → OpenTransaction p (new ∷ recordsOf h) new
         to-prepare s f q u (begun v w) =
             record {
               pid = pid-same q;
@@ -139,7 +143,8 @@ module _ (c : Catalogue) (h : History) (t : HistoryInvariant c h) where
             (λ l f _.
             let flushed : l .end ≤ flushedOf h = leb-true (l .end) (flushedOf h) (if-found-is (λ (x : Logged). isFlushed h x ≡ true) f (a .waits)) in
             let ends : q .end ≤ l .end = latest-ends c (recordsOf h) (t .ends) (r .name) l f q i o in
-            let test : (isOf (r .name) q && isFlushedPrepare h q) ≡ true = and-both (isOf (r .name) q) (isFlushedPrepare h q) o (and-both (isPrepare (q .content .status)) (isFlushed h q) (and-right (isOf (p .what .name) q) (isPrepare (q .content .status)) m) (le-leb (q .end) (flushedOf h) (omega arith))) in
+            let test : (isOf (r .name) q && isFlushedPrepare h q) ≡ true = and-both (isOf (r .name) q) (isFlushedPrepare h q) o
+            (and-both (isPrepare (q .content .status)) (isFlushed h q) (and-right (isOf (p .what .name) q) (isPrepare (q .content .status)) m) (le-leb (q .end) (flushedOf h) (omega arith))) in
             found-with (λ (y : Logged). q .number ≤ y .number) (preparedBefore (r .name) h) (find-newest (λ (x : Logged). isOf (r .name) x && isFlushedPrepare h x) (length h) (recordsOf h) (t .numbered) q i test)
             (λ y g n. let z : numberAfter (some y) ≤ length (p .before) = subst (λ (v : Option Logged). numberAfter v ≤ length (p .before)) g since in omega arith))
 
@@ -164,7 +169,8 @@ module _ (c : Catalogue) (h : History) (t : HistoryInvariant c h) where
           marks = rw same-markers (each-then (MarksPrepare h) (MarksPrepare (appending ∷ h))
               (λ m i. record { earlier = omega (arith, i .earlier); marked = rw (added .records) (λ q. absurd (omega (arith, i .earlier)), i .marked) }) (collect markersIn h) (t .marks));
           already-closed = λ k b. rw (added .records, same-markers, entries)
-              (in-each _ (collect markersIn h) (λ o i. under-each h appending (λ position pid. refl) (λ (n : ℕ) (p : Entry). AlreadyClosed n (endingBy k (new ∷ recordsOf h)) o p) (already-closed-cut k (rw (added .flushed) at b) o i)));
+              (in-each _ (collect markersIn h) (λ o i. under-each h appending (λ position pid. refl) (λ (n : ℕ) (p : Entry). AlreadyClosed n (endingBy k (new ∷ recordsOf h)) o p)
+              (already-closed-cut k (rw (added .flushed) at b) o i)));
           one-marker = rw same-markers (t .one-marker);
         }
       where

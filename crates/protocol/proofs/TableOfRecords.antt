@@ -7,15 +7,18 @@ use mathlib.Core.List.{List, [], _∷_}
 use mathlib.Core.Option.{none, some}
 use lib.ListN.{length}
 use Rattle.numbers.proofs.Bytes.{same-true, differ}
-use Rattle.numbers.proofs.Tests.{not-both}
+use Rattle.numbers.proofs.Tests.{not-both, either}
 use Rattle.catalogue.specs.declared.Catalogue.{Catalogue}
 use Rattle.record.specs.Frame.{frame}
 use Rattle.record.specs.Record.{wellFormed}
 use Rattle.record.specs.declared.Record.{Record}
 use Rattle.record.proofs.Bounds.{formed-starts}
+use Rattle.search.proofs.Found.{none-some, some-same}
+use Rattle.search.proofs.Members.{In, in-nil, in-cons}
+use Rattle.search.proofs.Find.{find-nothing, find-hit, find-miss}
 use Rattle.row.specs.Row.{held}
-use Rattle.row.proofs.Laws.{NotNegative}
 use Rattle.row.specs.declared.Row.{Row}
+use Rattle.row.proofs.Laws.{NotNegative}
 use Rattle.succession.specs.Succession.{follows}
 use Rattle.table.specs.Next.{mayCome, withRecord}
 use Rattle.table.specs.Table.{emptyTable, rowAt, placeOf, holds}
@@ -27,7 +30,6 @@ use Rattle.log_reader.proofs.TableSays.{records-valid}
 use Rattle.runs.specs.History.{Logged, contents, endOf, isOf}
 use Rattle.runs.specs.Demand3.{Ends}
 use Rattle.protocol.specs.RecordsOfName.{latestIn}
-use Rattle.protocol.proofs.Lists.{find-nothing, none-some, some-same, In, in-nil, in-cons, find-hit, find-miss, either}
 use Rattle.protocol.proofs.Cuts.{ends-length}
 
 -- ---- the table of the records

@@ -13,15 +13,17 @@ use Rattle.numbers.proofs.Tests.{and-left, and-right}
 use Rattle.numbers.proofs.Bytes.{same-true}
 use Rattle.catalogue.specs.declared.Catalogue.{Catalogue}
 use Rattle.record.specs.Record.{statusCode}
-use Rattle.row.specs.Row.{isPrepare}
 use Rattle.search.specs.Search.{found, Each}
+use Rattle.search.proofs.Found.{some-same, is-found, found-with}
+use Rattle.search.proofs.Members.{In, in-each}
+use Rattle.search.proofs.Find.{each-filter}
+use Rattle.row.specs.Row.{isPrepare}
+use Rattle.row.proofs.Laws.{prepare-code}
 use Rattle.runs.specs.History.{History, eventsBefore, preparedBefore, numberAfter, Logged, recordsOf, nextOf, isCompleted, completedPrepares, transaction, markerOver}
 use Rattle.runs.specs.Demand3.{StandsUnder}
 use Rattle.protocol.specs.RecordsOfName.{latestIn, nthPrepare}
 use Rattle.protocol.specs.Entries.{Entry, entriesOf, ordinalOf, underOf}
 use Rattle.protocol.specs.HistoryInvariant.{Stage, begun, prepared, OpenTransaction, Closes, Standing, stillOpen, closed, InTransaction, HistoryInvariant}
-use Rattle.protocol.proofs.Lists.{some-same, is-found, found-with, In, in-each, each-filter}
-use Rattle.protocol.proofs.Statuses.{prepare-code}
 use Rattle.protocol.proofs.AfterPrepare.{latest-last}
 use Rattle.protocol.proofs.Ordinals.{nth-below, nth-latest}
 use Rattle.protocol.proofs.Consequences.{ordinal-is, standing-now}

@@ -8,11 +8,11 @@ use lib.ListN.{length}
 use Rattle.catalogue.specs.declared.Catalogue.{Catalogue}
 use Rattle.search.specs.Search.{Each, Found}
 use Rattle.search.proofs.Each.{each-then}
+use Rattle.search.proofs.Members.{in-each}
 use Rattle.runs.specs.History.{Order, Event, logFlushed, logCut, logOpened, orderGiven, orderCarried, History, ordersIn, markersIn, producedIn, collect, collectWithBefore, Logged, endingBy, recordsOf, endOf, flushedOf, recordNumbered}
 use Rattle.runs.specs.Demand3.{IsFor}
 use Rattle.protocol.specs.Entries.{Entry, entriesOf, ordinalOf, kindIn}
 use Rattle.protocol.specs.HistoryInvariant.{Standing, Marks, AlreadyClosed, HistoryInvariant, MarksPrepare, ForPrepare}
-use Rattle.protocol.proofs.Lists.{in-each}
 use Rattle.protocol.proofs.Cuts.{ending-all, ending-again, ending-in, ending-each, ending-ends, ending-come, ending-numbered, numbered-more}
 use Rattle.protocol.proofs.Events.{collect-same, collect-before-same, same-entries, carried-records, given-records, KeepsRecords}
 use Rattle.protocol.proofs.Entries.{under-each}
@@ -26,7 +26,7 @@ pub record WritesNothing (h : History) (e : Event) : Type 0 where
   pub no-kind : (position pid : ℕ) → kindIn position pid e ≡ 0
   pub left : ℕ
   pub left-is : recordsOf (e ∷ h) ≡ endingBy left (recordsOf h)
-  pub views : (k : ℕ) → flushedOf (e ∷ h) ≤ k → (m : ℕ) × (flushedOf h ≤ m) × (endingBy k (recordsOf (e ∷ h)) ≡ endingBy m (recordsOf h))
+  pub earlier-cut : (k : ℕ) → flushedOf (e ∷ h) ≤ k → (m : ℕ) × (flushedOf h ≤ m) × (endingBy k (recordsOf (e ∷ h)) ≡ endingBy m (recordsOf h))
 
 module _ (h : History) where
   all-left : recordsOf h ≡ endingBy (endOf (recordsOf h)) (recordsOf h)
@@ -41,7 +41,7 @@ module _ (h : History) where
         no-kind = q;
         left = endOf (recordsOf h);
         left-is = s .records ∙ all-left;
-        views = λ k f. (k, rw (s .flushed) at f, ap (endingBy k) (s .records));
+        earlier-cut = λ k f. (k, rw (s .flushed) at f, ap (endingBy k) (s .records));
       }
 
   pub given-writes-nothing : (o : Order) → WritesNothing h (orderGiven o)
@@ -53,12 +53,12 @@ module _ (h : History) where
   pub flush-writes-nothing : (n : ℕ) → flushedOf h ≤ n → WritesNothing h (logFlushed n)
   unfolding recordsOf flushedOf
   flush-writes-nothing n b =
-      record { no-entry = refl; no-marker = refl; no-kind = λ position pid. refl; left = endOf (recordsOf h); left-is = all-left; views = λ k f. (k, omega arith, refl) }
+      record { no-entry = refl; no-marker = refl; no-kind = λ position pid. refl; left = endOf (recordsOf h); left-is = all-left; earlier-cut = λ k f. (k, omega arith, refl) }
 
   pub cut-writes-nothing : (n : ℕ) → flushedOf h ≤ n → WritesNothing h (logCut n)
   unfolding recordsOf flushedOf
   cut-writes-nothing n b =
-      record { no-entry = refl; no-marker = refl; no-kind = λ position pid. refl; left = n; left-is = refl; views = λ k f. (n, b, ending-again n k (recordsOf h) f) }
+      record { no-entry = refl; no-marker = refl; no-kind = λ position pid. refl; left = n; left-is = refl; earlier-cut = λ k f. (n, b, ending-again n k (recordsOf h) f) }
 
   pub opened-writes-nothing : (epoch : ℤ) → endOf (recordsOf h) ≤ flushedOf h → WritesNothing h (logOpened epoch)
   unfolding recordsOf flushedOf
@@ -69,7 +69,7 @@ module _ (h : History) where
         no-kind = λ position pid. refl;
         left = endOf (recordsOf h);
         left-is = all-left;
-        views = λ k f. (flushedOf h, omega arith, ending-all k (recordsOf h) f ∙ sym (ending-all (flushedOf h) (recordsOf h) b));
+        earlier-cut = λ k f. (flushedOf h, omega arith, ending-all k (recordsOf h) f ∙ sym (ending-all (flushedOf h) (recordsOf h) b));
       }
 
 module _ (c : Catalogue) (h : History) (t : HistoryInvariant c h) where
@@ -80,7 +80,7 @@ module _ (c : Catalogue) (h : History) (t : HistoryInvariant c h) where
         ends = rw (q .left-is) (ending-ends (q .left) c (recordsOf h) (t .ends));
         numbered = rw (q .left-is) (numbered-more (length h) (suc (length h)) (endingBy (q .left) (recordsOf h)) (omega arith) (ending-numbered (q .left) (length h) (recordsOf h) (t .numbered)));
         entitled = rw entries (t .entitled);
-        standing = λ k b. let (m, f, v) = q .views k b in
+        standing = λ k b. let (m, f, v) = q .earlier-cut k b in
             rw (v, entries) (under-each h e (q .no-kind) (λ (n : ℕ) (p : Entry). Standing n (endingBy m (recordsOf h)) p) (t .standing m f));
         by-ordinal = rw (q .left-is, entries)
             (in-each _ (endingBy (q .left) (recordsOf h))
@@ -90,8 +90,9 @@ module _ (c : Catalogue) (h : History) (t : HistoryInvariant c h) where
             (ordinal-was c h t e r (ending-in (q .left) (recordsOf h) r i) prepares p j w) i)));
         for-prepare = orders;
         marks = rw same-markers (each-then (MarksPrepare h) (MarksPrepare (e ∷ h))
-            (λ m i. record { earlier = omega (arith, i .earlier); marked = rw (q .left-is) (ending-each (q .left) (λ (r : Logged). r .number ≡ m .for → Marks m r) (recordsOf h) (i .marked)) }) (collect markersIn h) (t .marks));
-        already-closed = λ k b. let (m, f, v) = q .views k b in
+            (λ m i. record { earlier = omega (arith, i .earlier); marked = rw (q .left-is) (ending-each (q .left) (λ (r : Logged). r .number ≡ m .for → Marks m r) (recordsOf h) (i .marked)) })
+            (collect markersIn h) (t .marks));
+        already-closed = λ k b. let (m, f, v) = q .earlier-cut k b in
             rw (v, same-markers, entries)
             (in-each _ (collect markersIn h) (λ o i. under-each h e (q .no-kind) (λ (n : ℕ) (p : Entry). AlreadyClosed n (endingBy m (recordsOf h)) o p) (closed-at c h t o i m f)));
         one-marker = rw same-markers (t .one-marker);

@@ -10,8 +10,8 @@ use Rattle.bits.specs.Bits.{member}
 use Rattle.catalogue.specs.declared.Catalogue.{Catalogue}
 use Rattle.record.specs.Record.{statusCode}
 use Rattle.record.specs.declared.Status.the-variants.{Begin}
-use Rattle.row.specs.Row.{isPrepare}
 use Rattle.search.specs.Search.{Each, Found, IfFound}
+use Rattle.row.specs.Row.{isPrepare}
 use Rattle.table.specs.Table.{emptyTable}
 use Rattle.log_reader.specs.Records.{allCome}
 use Rattle.runs.specs.History.{Order, History, Logged, recordsOf, contents, recordNumbered, latestOf, eventsBefore, preparedBefore, numberAfter, ordersIn, markersIn, WithBefore, collect, collectWithBefore, markersFor}
@@ -21,11 +21,12 @@ use Rattle.protocol.specs.Entries.{Entry, entriesOf, ordinalOf, underOf}
 
 -- ---- an entry and the records
 
--- the latest record of an open entry's name: its transaction has begun, or it is the prepare of that transaction and came after the entry
+-- how far an open entry's transaction has come, by the latest record of its name: begun, or prepared after the entry
 pub data Stage (p : Entry) (records : List Logged) (r : Logged) : Type 0 where
   begun : r .content .status ≡ Begin → preparesIn (p .what .name) records ≡ ordinalOf p → Stage p records r
   prepared : isPrepare (r .content .status) ≡ true → preparesIn (p .what .name) records ≡ suc (ordinalOf p) → length (p .before) < r .number → Stage p records r
 
+-- the latest record of an open entry's name is of the entry's transaction: it has its pid, and its position joined
 pub record OpenTransaction (p : Entry) (records : List Logged) (r : Logged) : Type 0 where
   pub pid : r .content .pid ≡ p .what .pid
   pub joined : member (r .content .joined) (p .what .position) ≡ true
@@ -36,7 +37,7 @@ pub record Closes (kind : ℕ) (p : Entry) (r : Logged) : Type 0 where
   pub verdict : statusCode (r .content .status) ≡ kind + 1
   pub later : length (p .before) < r .number
 
--- an entry that stands under a marker of this kind, 0 for none: it is open and its owner busy, or it stands under its prepare's verdict
+-- an entry that stands under a marker of this kind, 0 for none: it is open and its transaction not completed, or it stands under its prepare's verdict
 pub data Standing (kind : ℕ) (records : List Logged) (p : Entry) : Type 0 where
   stillOpen : kind ≡ 0 → Found (OpenTransaction p records) (latestIn (p .what .name) records) → Standing kind records p
   closed : Found (Closes kind p) (nthPrepare (p .what .name) (ordinalOf p) records) → Standing kind records p
@@ -83,9 +84,11 @@ pub record HistoryInvariant (c : Catalogue) (h : History) : Type 0 where
   -- each entry was written for a flushed BEGIN; at every cut it is open, or it stands under its prepare's verdict
   pub entitled : Each (λ (p : Entry). Found (Entitled (p .what) (p .before)) (latestOf (p .what .name) (p .before))) (entriesOf h)
   pub standing : AtEveryCut h (λ records. Each (λ (p : Entry). Standing (underOf h p) records p) (entriesOf h))
+  -- and it belongs to the prepare of its ordinal
   pub by-ordinal : Each (λ (q : Logged). OfOrdinal h q) (recordsOf h)
-  -- the orders and markers; a partition holds one marker for each prepare
+  -- orders and markers are for flushed prepares, and after a marker nothing of its prepare is open there
   pub for-prepare : Each ForPrepare (collectWithBefore ordersIn h)
   pub marks : Each (MarksPrepare h) (collect markersIn h)
   pub already-closed : AtEveryCut h (λ records. Each (λ (m : Order). Each (λ (p : Entry). AlreadyClosed (underOf h p) records m p) (entriesOf h)) (collect markersIn h))
+  -- so a partition holds one marker for each prepare
   pub one-marker : Each (λ (m : Order). markersFor m h ≡ 1) (collect markersIn h)

@@ -5,8 +5,8 @@ use mathlib.Core.Bool.{Bool, cond, _&&_}
 use mathlib.Core.List.{List, [], _∷_}
 use mathlib.Core.Option.{Option, none, some}
 use lib.Dec.{eqb}
-use Rattle.row.specs.Row.{isPrepare}
 use Rattle.search.specs.Search.{find, countWhere}
+use Rattle.row.specs.Row.{isPrepare}
 use Rattle.runs.specs.History.{History, Logged, endingBy, recordsOf, flushedOf, isOf}
 
 -- the latest record of a name among these
@@ -25,7 +25,7 @@ unfoldable pub nthPrepare : List ℕ → ℕ → List Logged → Option Logged
 nthPrepare name n [] = none
 nthPrepare name n (x ∷ records) = cond (isPrepareOf name x && eqb (preparesIn name records) n) (some x) (nthPrepare name n records)
 
--- this holds of what every cut from the flushed length on leaves: a flush has fewer of them, and so has a cut
+-- this holds of what every cut from the flushed length on leaves: after a flush or a cut there are fewer such cuts
 abbrev pub AtEveryCut : History → (List Logged → Type 0) → Type 0
 AtEveryCut h P = (k : ℕ) → flushedOf h ≤ k → P (endingBy k (recordsOf h))
 

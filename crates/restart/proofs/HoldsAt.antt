@@ -1,34 +1,36 @@
--- What holds at every moment: each clause of demand 3 but the count of orders, from the invariant.
-use Prim.Native.Nat.{ℕ, suc, _+_, _-_, _*_, _≤_, _<_, _^_}
+-- What holds at every moment of a run: each clause of demand 3 but the count of orders, from the invariant.
+use Prim.Native.Nat.{ℕ, _+_, _-_, _*_, _≤_, _<_}
 use mathlib.Core.Path.{_≡_, refl, sym, ap, subst, _∙_}
 use mathlib.Core.Bool.{true, false, not, _&&_}
-use mathlib.Core.List.{List, [], _∷_}
+use mathlib.Core.List.{[], _∷_}
 use mathlib.Core.Option.{some}
 use native.Mathlib.Omega.{arith}
-use lib.ListN.{length, take, getD}
-use borrow.Author.Tests.{le-leb, ltb-true, le-ltb, leb-true, eq-eqb, not-true}
+use lib.ListN.{length, take}
+use borrow.Author.Tests.{le-leb, ltb-true, leb-true, eq-eqb, not-true}
 use Rattle.numbers.proofs.Tests.{not-both, and-left, and-right, and-both}
-use Rattle.bits.specs.Bits.{member, subset}
-use Rattle.bits.proofs.Laws.{subset-same, subset-trans, subset-is, subset-from, member-is, member-true, left-parts}
+use Rattle.bits.specs.Bits.{subset}
 use Rattle.catalogue.specs.declared.Catalogue.{Catalogue}
 use Rattle.record.specs.Record.{statusCode}
-use Rattle.record.proofs.Bounds.{well-formed-parts}
-use Rattle.row.specs.Row.{isPrepare, outstanding}
-use Rattle.row.specs.declared.Row.{Row}
-use Rattle.search.specs.Search.{Each, EachAt, Found}
+use Rattle.search.specs.Search.{Each, Found}
+use Rattle.search.proofs.Found.{found-with}
+use Rattle.search.proofs.Members.{In, each-in, in-each}
+use Rattle.search.proofs.Find.{each-filter}
+use Rattle.search.proofs.Each.{each-place}
 use Rattle.answers.specs.Limits.{places}
 use Rattle.answers.specs.Answers.{reply, orderReply}
 use Rattle.answers.specs.Refusals.{firstRefusal, Decision}
 use Rattle.answers.specs.declared.Answer.{Answer}
 use Rattle.answers.specs.declared.Answer.the-variants.{Refused}
 use Rattle.answers.proofs.Laws.{unless-accepted}
-use Rattle.table.specs.Table.{rowAt, placeOf}
+use Rattle.row.specs.Row.{isPrepare}
+use Rattle.row.proofs.Laws.{prepare-code}
+use Rattle.table.specs.Table.{placeOf}
 use Rattle.log_reader.specs.Records.{framesOf}
-use Rattle.coordinator.specs.Coordinator.{Action, keep, unflushed}
+use Rattle.coordinator.specs.Coordinator.{Action, keep}
 use Rattle.coordinator.specs.Ack.{ackTests, ack}
-use Rattle.coordinator.specs.Order.{due, ordered, orderPlace, order}
+use Rattle.coordinator.specs.Order.{orderPlace, order}
 use Rattle.coordinator.specs.declared.Coordinator.{Coordinator}
-use Rattle.coordinator.proofs.OrderCases.{ordered-is, order-given, order-lowest}
+use Rattle.coordinator.proofs.OrderCases.{order-given, order-lowest}
 use Rattle.partition.specs.Limits.{entryWords}
 use Rattle.partition.specs.Partition.{Action as PartitionAction}
 use Rattle.partition.specs.Read.{standsUnder}
@@ -39,9 +41,6 @@ use Rattle.runs.specs.InEveryRun.{kindOf}
 use Rattle.runs.specs.Demand3.{Completes, LogAgrees, SameLengths, WordsAgree, IsFor, OfLastOpening, UnderItsVerdict, GivenUpTo, OrdersGiven, AckDone, CarryingAccepted, Restarts, HoldsAt}
 use Rattle.protocol.specs.Entries.{Entry, entriesOf}
 use Rattle.protocol.specs.HistoryInvariant.{ForPrepare}
-use Rattle.protocol.proofs.Lists.{In, found-with, each-in, in-each, each-filter}
-use Rattle.protocol.proofs.Statuses.{prepare-code}
-use Rattle.protocol.proofs.TableOfRecords.{come-record}
 use Rattle.protocol.proofs.AfterPrepare.{After, latest, completed, after-prepare}
 use Rattle.protocol.proofs.MarkerOver.{under-over}
 use Rattle.protocol.proofs.UnderVerdict.{under-verdict}
@@ -49,7 +48,8 @@ use Rattle.agreement.proofs.Invariant.{LogSide, UnderWay, CarryingSide, Invaria
 use Rattle.agreement.proofs.LiveTable.{live-latest, live-holds}
 use Rattle.agreement.proofs.LogSteps.{up-agrees, up-lengths, down-agrees, down-restarts}
 use Rattle.agreement.proofs.Words.{MarkersFit, under-words}
-use Rattle.agreement.proofs.Preserves.{log-of, acks-of}
+use Rattle.agreement.proofs.Preserves.{log-of}
+use Rattle.agreement.proofs.PreparedRow.{row-ordered}
 use Rattle.agreement.proofs.Produces.{words-length}
 use Rattle.agreement.proofs.Delivers.{marker-passes}
 use Rattle.agreement.proofs.Acknowledges.{ack-passes}
@@ -76,15 +76,10 @@ restarts w i = go (w .phase) (i .log-side)
 
 -- ---- the words
 
-pub each-at : {A : Type 0} (P : ℕ → A → Type 0) (d : A) (n : ℕ) (l : List A) → ((x : ℕ) → P (n + x) (getD l x d)) → EachAt P n l
-each-at P d n [] f = tt
-each-at P d n (y ∷ l) f =
-    (let z : n + 0 ≡ n = omega arith in subst (λ (k : ℕ). P k y) z (f 0), each-at P d (suc n) l (λ x. let z : n + suc x ≡ suc n + x = omega arith in subst (λ (k : ℕ). P k (getD l x d)) z (f (suc x))))
-
 words-agree : (w : World) → Invariant w → WordsAgree w
 words-agree w i =
     record {
-      words = each-at (λ x (l : Leader). take (entryWords * l .partition .end) (l .words) ≡ wordsOf x (w .history)) (openLeader []) 0 (w .leaders)
+      words = each-place (λ x (l : Leader). take (entryWords * l .partition .end) (l .words) ≡ wordsOf x (w .history)) (openLeader []) 0 (w .leaders)
           (λ x. let z : 0 + x ≡ x = omega arith in rw z (i .leaders x .words));
       entitled = i .of-history .entitled;
       offsets = i .offsets;
@@ -116,14 +111,16 @@ pub stands-under : (w : World) → Invariant w → (p : Entry) → In p (entries
     → let l = leaderAt w (p .what .position) in standsUnder (l .words) (l .partition .end) (p .what .offset) ≡ kindOf (markerOver (w .history) p)
 stands-under w i p j =
     let l = leaderAt w (p .what .position) in
-    under-words (w .history) (markers-fit (w .history) (i .of-history .for-prepare)) p j (each-in (λ (p : Entry). entryWords * p .what .offset ≡ length (wordsOf (p .what .position) (p .before))) (entriesOf (w .history)) p (i .offsets) j)
+    under-words (w .history) (markers-fit (w .history) (i .of-history .for-prepare)) p j
+    (each-in (λ (p : Entry). entryWords * p .what .offset ≡ length (wordsOf (p .what .position) (p .before))) (entriesOf (w .history)) p (i .offsets) j)
     (l .words) (l .partition .end) (i .leaders (p .what .position) .words) (words-length w i (p .what .position))
     ∙ under-over (w .history) p
 
 -- ---- orders
 
 -- a prepare that is flushed and not completed is its name's latest record
-pub pending-latest : (w : World) → Invariant w → (p : Logged) → In p (recordsOf (w .history)) → (isFlushedPrepare (w .history) p && not (isCompleted (w .history) p)) ≡ true → latestOf (p .content .name) (w .history) ≡ some p
+pub pending-latest : (w : World) → Invariant w → (p : Logged) → In p (recordsOf (w .history)) → (isFlushedPrepare (w .history) p && not (isCompleted (w .history) p)) ≡ true
+    → latestOf (p .content .name) (w .history) ≡ some p
 pending-latest w i p j e = go (after-prepare c (length h) (recordsOf h) (i .of-history .come) (i .of-history .ends) (i .of-history .numbered) p j prepares)
   where
     c : Catalogue
@@ -155,26 +152,18 @@ orders-given-up w i s u =
     h : History
     h = w .history
 
-    go : (p : Logged) → In p (recordsOf h) → (isFlushedPrepare h p && not (isCompleted h p)) ≡ true → (set : ℕ) → subset (c .all) set ≡ true → GivenUpTo (placeOf (s .table) (p .content .name)) (orderReply (order s set) .results)
+    go : (p : Logged) → In p (recordsOf h) → (isFlushedPrepare h p && not (isCompleted h p)) ≡ true → (set : ℕ) → subset (c .all) set ≡ true
+        → GivenUpTo (placeOf (s .table) (p .content .name)) (orderReply (order s set) .results)
     go p j e set more =
         let is = pending-latest w i p j e in
         let k = placeOf (s .table) (p .content .name) in
-        let row = rowAt (s .table) k in
-        let l = log-of w i s u in
-        let row-is = live-latest c (w .log) s h l (i .of-history) (p .content .name) p is in
-        let prepares : isPrepare (row .status) ≡ true = ap (λ (y : Row). isPrepare (y .status)) row-is ∙ and-left (isPrepare (p .content .status)) (isFlushed h p) (and-left (isFlushedPrepare h p) (not (isCompleted h p)) e) in
-        let flushed : unflushed (s .flushed) row ≡ false = le-ltb (s .flushed) (row .end) (let b = leb-true (p .end) (flushedOf h) (and-right (isPrepare (p .content .status)) (isFlushed h p) (and-left (isFlushedPrepare h p) (not (isCompleted h p)) e)) in let z : row .end ≡ p .end = ap (λ (y : Row). y .end) row-is in omega (arith, l .flushed)) in
-        let parts = well-formed-parts c (p .content) (come-record c (recordsOf h) (i .of-history .come) p j .0) in
-        let joined : row .joined ≡ p .content .joined = ap (λ (y : Row). y .joined) row-is in
-        let small : row .joined < 2 ^ 64 = omega (arith, parts .joined-below) in
-        let within : subset (outstanding row) (c .all) ≡ true = subset-is (outstanding row) (c .all) (λ x m.
-        let (a, _) = left-parts 64 (row .joined) (row .acknowledged) small (acks-of w i s u .small k) x (member-is (outstanding row) x m) in
-        subset-from (p .content .joined) (c .all) (eq-eqb _ _ (parts .joined-inside)) x (member-true (p .content .joined) x (subst (λ (n : ℕ). member n x ≡ true) joined a))) in
-        let same : due row set ≡ outstanding row = subset-same (outstanding row) set (subset-trans (outstanding row) (c .all) set within more) in
-        let some : due row set ≡ 0 → ⊥ = λ z. acks-of w i s u .waiting k prepares (sym same ∙ z) in
-        let test : ordered (s .flushed) set row ≡ true = ordered-is s set row (record { prepares = prepares; flushed = flushed; some = some }) in
+        let flushed-prepare = and-left (isFlushedPrepare h p) (not (isCompleted h p)) e in
+        let prepare = and-left (isPrepare (p .content .status)) (isFlushed h p) flushed-prepare in
+        let flushed = leb-true (p .end) (flushedOf h) (and-right (isPrepare (p .content .status)) (isFlushed h p) flushed-prepare) in
+        let row-is = live-latest c (w .log) s h (log-of w i s u) (i .of-history) (p .content .name) p is in
+        let test = row-ordered w i s u k p j prepare row-is flushed set more in
         let low : k < orderPlace s set → ⊥ = λ b. not-both (order-lowest s set k b) test in
-        let inside : k < places = ltb-true k places (live-holds c (w .log) s h l (i .of-history) (p .content .name) p is) in
+        let inside : k < places = ltb-true k places (live-holds c (w .log) s h (log-of w i s u) (i .of-history) (p .content .name) p is) in
         rw (order-given s set (omega arith)) (le-leb (orderPlace s set) k (omega arith))
 
 orders-given : (w : World) → Invariant w → OrdersGiven (w .phase) w
@@ -186,9 +175,11 @@ orders-given w i = go (w .phase) refl
 
 -- ---- carrying
 
-ack-done : (w : World) (i : Invariant w) (s : Coordinator) (u : w .phase ≡ up s) (o : Order) → UnderWay (catalogueOf w) (w .history) s o → reply (ack s (length (w .log)) (o .place) (o .pid) (o .epoch) (o .position) .answer) .number ≡ 0
+ack-done : (w : World) (i : Invariant w) (s : Coordinator) (u : w .phase ≡ up s) (o : Order) → UnderWay (catalogueOf w) (w .history) s o
+    → reply (ack s (length (w .log)) (o .place) (o .pid) (o .epoch) (o .position) .answer) .number ≡ 0
 unfolding ack
-ack-done w i s u o way = ap (λ (d : Decision Answer Action). reply (d .answer) .number) (unless-accepted (firstRefusal (ackTests s (length (w .log)) (o .place) (o .pid) (o .epoch) (o .position))) Refused keep _ (ack-passes w i s u o way))
+ack-done w i s u o way = ap (λ (d : Decision Answer Action). reply (d .answer) .number)
+    (unless-accepted (firstRefusal (ackTests s (length (w .log)) (o .place) (o .pid) (o .epoch) (o .position))) Refused keep _ (ack-passes w i s u o way))
 
 pub carrying-accepted : (w : World) → Invariant w → CarryingAccepted (w .carrying) w
 carrying-accepted w i = go (w .carrying) (w .phase) refl (i .carried)
@@ -198,7 +189,8 @@ carrying-accepted w i = go (w .carrying) (w .phase) refl (i .carried)
     go (toDeliver n o) (up s) u d =
         let way : UnderWay (catalogueOf w) (w .history) s o = subst (λ (y : Phase). CarryingSide (catalogueOf w) (w .history) y (toDeliver n o)) u d in
         let l = leaderAt w (o .position) in
-        ap (λ (x : Decision Answer PartitionAction). reply (x .answer) .number) (marker-accepted (l .partition) (length (l .words)) (o .place) (o .pid) (o .epoch) (o .verdict) (o .coordinator) (marker-passes w i s u o way))
+        ap (λ (x : Decision Answer PartitionAction). reply (x .answer) .number) (marker-accepted (l .partition) (length (l .words)) (o .place) (o .pid) (o .epoch) (o .verdict) (o .coordinator)
+        (marker-passes w i s u o way))
     go (toDeliver n o) (down m before) u d = absurd (subst (λ (y : Phase). CarryingSide (catalogueOf w) (w .history) y (toDeliver n o)) u d)
     go (toAcknowledge n o) (up s) u d =
         let (way, _) = subst (λ (y : Phase). CarryingSide (catalogueOf w) (w .history) y (toAcknowledge n o)) u d in

@@ -1,68 +1,38 @@
--- How many orders a flushed prepare still needs, and that no other step changes it: the exact count of carried orders.
-use Prim.Native.Nat.{ℕ, zero, suc, _+_, _-_, _/_, _%_, _≤_, _<_, _^_, min}
+-- The total of carried orders of a prepare: those carried and those left, and what keeps their sum.
+use Prim.Native.Nat.{ℕ, _+_, _-_, _<_}
 use mathlib.Core.Path.{_≡_, refl, sym, ap, subst, _∙_}
 use mathlib.Core.Logic.{_≢_}
 use mathlib.Core.Bool.{true, cond, true≢false}
 use mathlib.Core.List.{List, _∷_}
 use mathlib.Core.Option.{Option, none, some}
-use native.Mathlib.Omega.{arith}
-use lib.Bits.{bitAnd, and-step, and-mask}
-use lib.Count.{ones, ones-step}
 use lib.Dec.{eqb, ltb}
 use lib.ListN.{length}
 use borrow.Author.Tests.{eq-eqb, lt-ltb}
-use Rattle.numbers.specs.Bytes.{same}
 use Rattle.numbers.proofs.Tests.{and-left, and-right, and-both}
-use Rattle.bits.specs.Bits.{count, difference, insert}
+use Rattle.numbers.proofs.Bytes.{same-false}
+use Rattle.bits.specs.Bits.{count, insert}
 use Rattle.catalogue.specs.declared.Catalogue.{Catalogue}
 use Rattle.record.specs.Record.{statusCode}
+use Rattle.search.specs.Search.{findLast, found, countWhere}
+use Rattle.search.proofs.Find.{find-miss, last-there, last-here}
 use Rattle.row.specs.Row.{isPrepare, outstanding, withEnd, withAcknowledged}
 use Rattle.row.specs.declared.Row.{Row}
-use Rattle.search.specs.Search.{findLast, found, countWhere}
-use Rattle.table.specs.Table.{rowAt, placeOf, apply, withRow}
+use Rattle.table.specs.Table.{rowAt, placeOf, apply, withRow, emptyTable}
 use Rattle.table.specs.declared.Table.{Table}
 use Rattle.table.proofs.Laws.{apply-same, apply-other}
 use Rattle.table.proofs.Unacknowledged.{plain-place, plain-with}
+use Rattle.log_reader.specs.Records.{allCome}
 use Rattle.coordinator.specs.Coordinator.{logEnd, rowFrame, appended, acknowledged}
 use Rattle.coordinator.specs.declared.Coordinator.{Coordinator}
 use Rattle.runs.specs.History.{Order, orderCarried, History, carriedIn, collect, Logged, recordsOf, contents, isOf, latestOf, nextOf, listed, isCompleted, carriedFor}
 use Rattle.runs.specs.World.{Phase, up, down}
 use Rattle.protocol.specs.RecordsOfName.{latestIn}
 use Rattle.protocol.specs.HistoryInvariant.{HistoryInvariant}
-use Rattle.protocol.proofs.Lists.{find-miss, last-there, last-here}
 use Rattle.protocol.proofs.Cuts.{is-of}
 use Rattle.protocol.proofs.AfterPrepare.{isAfter, latest-last}
 use Rattle.agreement.proofs.Invariant.{UpLog, placeIn}
 use Rattle.agreement.proofs.LiveTable.{live-place, live-latest}
 use Rattle.agreement.proofs.Tables.{place-kept}
-use Rattle.numbers.proofs.Bytes.{same-false}
-use Rattle.table.specs.Table.{emptyTable}
-use Rattle.log_reader.specs.Records.{allCome}
-use lib.Bits.{and-zero-l}
-use native.Mathlib.Nat.{two-pow-succ}
-
--- ---- counts of sets
-
--- a part has no more members
-pub count-part : (k a m : ℕ) → a < 2 ^ k → count (bitAnd a m) ≤ count a
-count-part zero a m h =
-    let z : a ≡ 0 = omega arith in
-    rw (z, and-zero-l m) (omega arith)
-count-part (suc k) a m h =
-    let i = count-part k (a / 2) (m / 2) (omega (arith, two-pow-succ k)) in
-    let s = and-step a m in
-    let half : bitAnd a m / 2 ≡ bitAnd (a / 2) (m / 2) = omega arith in
-    let low : bitAnd a m % 2 ≡ min (a % 2) (m % 2) = omega arith in
-    let one = ones-step (bitAnd a m) in
-    let two = ones-step a in
-    let same : ones (bitAnd a m / 2) ≡ ones (bitAnd (a / 2) (m / 2)) = ap ones half in
-    omega arith
-
--- with nothing taken away it is the set
-pub difference-none : (a : ℕ) → a < 2 ^ 64 → difference a 0 ≡ a
-difference-none a h =
-    let e : (2 ^ 64 - 1) - 0 ≡ 2 ^ 64 - 1 = omega arith in
-    ap (bitAnd a) e ∙ and-mask a 64 ∙ omega arith
 
 -- ---- what is left
 
@@ -128,7 +98,8 @@ left-appended c log log′ s h place row u t v u′ t′ x r inside p e d d′ =
     let same-place : placeOf (appended s place row .table) name ≡ placeOf (s .table) name =
     live-place c log′ (appended s place row) v u′ t′ name ∙ ap (λ (l : List Logged). placeIn c l name) r
     ∙ place-kept c x (recordsOf h) (subst (λ (l : List Logged). allCome c emptyTable (contents l) ≡ true) r (t′ .come)) (t .ends) name p e ∙ sym (live-place c log s h u t name) in
-    let named : rowAt (appended s place row .table) (placeOf (s .table) name) .name ≡ name = ap (λ (k : ℕ). rowAt (appended s place row .table) k .name) (sym same-place) ∙ ap (λ (y : Row). y .name) (live-latest c log′ (appended s place row) v u′ t′ name p e′) in
+    let named : rowAt (appended s place row .table) (placeOf (s .table) name) .name ≡ name = ap (λ (k : ℕ). rowAt (appended s place row .table) k .name) (sym same-place)
+    ∙ ap (λ (y : Row). y .name) (live-latest c log′ (appended s place row) v u′ t′ name p e′) in
     let not-here : placeOf (s .table) name ≡ place → ⊥ = λ z. d (sym (ap (λ (y : Row). y .name) here) ∙ ap (λ (k : ℕ). rowAt (appended s place row .table) k .name) (sym z) ∙ named) in
     ap (λ (k : ℕ). count (outstanding (rowAt (appended s place row .table) k))) same-place ∙ ap (λ (y : Row). count (outstanding y)) (there (placeOf (s .table) name) not-here)
   where

@@ -1,4 +1,4 @@
--- Every undisturbed item keeps the tally: a flushed prepare completes after exactly as many carried orders as it then has partitions left.
+-- Every undisturbed item keeps the total of carried orders of a flushed prepare.
 use Prim.Native.Nat.{ℕ, _+_, _-_, _<_, _^_}
 use mathlib.Core.Path.{_≡_, refl, sym, ap, subst, _∙_}
 use mathlib.Core.Logic.{_≢_}
@@ -12,19 +12,23 @@ use lib.IntN.{ℤ, pos}
 use lib.ListN.{length}
 use lib.Signed.{leZ}
 use borrow.Author.Tests.{eq-eqb, ne-eqb, eqb-true, not-true}
-use Rattle.numbers.proofs.Tests.{not-both, and-left, and-right}
+use Rattle.numbers.proofs.Tests.{not-both, and-left, and-right, either}
 use Rattle.bits.specs.Bits.{count, difference, insert}
-use Rattle.bits.proofs.Laws.{count-left, member-true, member-false}
+use Rattle.bits.proofs.Laws.{count-left, member-true, member-false, difference-none}
 use Rattle.catalogue.specs.Catalogue.{parse}
 use Rattle.catalogue.specs.declared.Catalogue.{Catalogue}
 use Rattle.record.specs.Record.{statusCode}
 use Rattle.record.proofs.Bounds.{well-formed-parts}
+use Rattle.search.specs.Search.{found}
+use Rattle.search.proofs.Found.{some-same}
+use Rattle.search.proofs.Members.{In, each-in}
+use Rattle.search.proofs.Find.{find-passes}
+use Rattle.answers.specs.Refusals.{Decision}
+use Rattle.answers.specs.declared.Answer.{Answer}
 use Rattle.row.specs.Row.{isPrepare, outstanding, recordOf}
 use Rattle.row.specs.Steps.{completed}
 use Rattle.row.specs.declared.Row.{Row}
-use Rattle.search.specs.Search.{found}
-use Rattle.answers.specs.Refusals.{Decision}
-use Rattle.answers.specs.declared.Answer.{Answer}
+use Rattle.row.proofs.Laws.{complete-code}
 use Rattle.table.specs.Table.{rowAt, placeOf, placeFor}
 use Rattle.table.proofs.Laws.{with-other}
 use Rattle.table.proofs.Records.{come-place}
@@ -35,22 +39,20 @@ use Rattle.coordinator.specs.Flush.{flush}
 use Rattle.coordinator.specs.Order.{order}
 use Rattle.coordinator.specs.Open.{opening}
 use Rattle.coordinator.specs.declared.Coordinator.{Coordinator}
-use Rattle.coordinator.proofs.AckCases.{ack-completed, ack-noted, acknowledged-row}
-use Rattle.partition.specs.Partition.{Action as PartitionAction, keep as keepPartition, note, write}
-use Rattle.partition.specs.Marker.{marker}
-use Rattle.server.specs.Produce.{produce}
 use Rattle.coordinator.specs.Calls.{CoordinatorCall, initCall, addCall, endCall, tickCall, flushCall, ackCall, callTyped, actionOf}
+use Rattle.coordinator.proofs.AckCases.{ack-completed, ack-noted, acknowledged-row}
 use Rattle.writer.specs.Writer.{openingReply}
 use Rattle.writer.proofs.Decisions.{Decided, byCall}
 use Rattle.writer.proofs.Lawful.{Lawful, decided-lawful}
+use Rattle.partition.specs.Partition.{Action as PartitionAction, keep as keepPartition, note, write}
+use Rattle.partition.specs.Marker.{marker}
+use Rattle.server.specs.Produce.{produce}
 use Rattle.runs.specs.History.{Order, Event, recordAppended, logFlushed, logOpened, orderGiven, markerWritten, orderCarried, entryWritten, History, carriedIn, collect, Logged, recordsOf, latestOf, nextOf, listed, isCompleted, carriedFor}
 use Rattle.runs.specs.World.{Phase, up, down, Carrying, nothing, toAcknowledge, World, catalogueOf, leaderAt, own, another, Item, call, callOrder, callProduce, callRead, deliver, acknowledge, cut, reopen, isAck, inLists, withEvent, coordinatorElsewhere, lentPartition, leaderDoes, historyAfter, historyWritten, coordinatorDoes, next, step}
 use Rattle.runs.specs.Demand3.{Undisturbed}
 use Rattle.runs.proofs.Leaves.{flush-elsewhere}
 use Rattle.runs.proofs.Cases.{step-cases, while-up-cases, lent-cases, leader-cases, deliverable-cases, acknowledgeable-cases, read-cases, reopened-cases, answered-cases}
 use Rattle.protocol.specs.HistoryInvariant.{HistoryInvariant}
-use Rattle.protocol.proofs.Lists.{In, each-in, some-same, find-passes, either}
-use Rattle.protocol.proofs.Statuses.{complete-code}
 use Rattle.protocol.proofs.Cuts.{numbered-same, numbered-below}
 use Rattle.protocol.proofs.TableOfRecords.{come-record}
 use Rattle.protocol.proofs.Events.{collect-same, marker-records, entry-records, given-records, opened-records, carried-records, flush-records, appended-records, newRecord}
@@ -63,7 +65,7 @@ use Rattle.agreement.proofs.Preserves.{log-of, acks-of}
 use Rattle.agreement.proofs.Delivers.{place-below}
 use Rattle.agreement.proofs.Acknowledges.{it, row-is, ack-passes, row-joins, joined-small, position-below}
 use Rattle.agreement.proofs.Restarts.{opening-valid, takesLog, call-refused, not-admitted}
-use Rattle.restart.proofs.TotalOrders.{difference-none, leftOf, TotalOrders, over, waits, total-same, total-other, total-over, completed-now, left-appended, place-acknowledged, carried-more}
+use Rattle.restart.proofs.TotalOrders.{leftOf, TotalOrders, over, waits, total-same, total-other, total-over, completed-now, left-appended, place-acknowledged, carried-more}
 
 module _ (p : Logged) (prepares : isPrepare (p .content .status) ≡ true) (n : ℕ) (w : World) (i : Invariant w) (stands : In p (recordsOf (w .history))) (t : TotalOrders p n (w .phase) (w .history)) where
   abbrev c : Catalogue
@@ -82,7 +84,8 @@ module _ (p : Logged) (prepares : isPrepare (p .content .status) ≡ true) (n : 
 
     -- ---- Init, Add, End, Tick and Flush
 
-    acted : (a : Action) → Lawful s a → FlushedFirst s a → UpLog c (logAfter a s (w .log)) (after a s) (historyAfter a s h) → HistoryInvariant c (historyAfter a s h) → TotalOrders p n (up (after a s)) (historyAfter a s h)
+    acted : (a : Action) → Lawful s a → FlushedFirst s a → UpLog c (logAfter a s (w .log)) (after a s) (historyAfter a s h) → HistoryInvariant c (historyAfter a s h)
+        → TotalOrders p n (up (after a s)) (historyAfter a s h)
     acted keep l k x y = now
     acted (advance clock) l k x y = total-same p n (up s) (up (after (advance clock) s)) h h refl refl refl now
     acted (append place row) l k x y = go now
@@ -105,7 +108,8 @@ module _ (p : Logged) (prepares : isPrepare (p .content .status) ≡ true) (n : 
         go (over e f) = total-over p new n (up (appended s place row)) h (recordAppended (recordOf row) end ∷ h) (appended-records h (recordOf row) end .records) carried e f
         go (waits e f) =
             let d : row .name ≡ p .content .name → ⊥ = λ z.
-            let is : isPrepare (rowAt (s .table) (placeOf (s .table) (row .name)) .status) ≡ true = ap (λ (m : List ℕ). isPrepare (rowAt (s .table) (placeOf (s .table) m) .status)) z ∙ ap (λ (r : Row). isPrepare (r .status)) (live-latest c (w .log) s h (log-of w i s u) (i .of-history) (p .content .name) p e) ∙ prepares in
+            let is : isPrepare (rowAt (s .table) (placeOf (s .table) (row .name)) .status) ≡ true = ap (λ (m : List ℕ). isPrepare (rowAt (s .table) (placeOf (s .table) m) .status)) z
+            ∙ ap (λ (r : Row). isPrepare (r .status)) (live-latest c (w .log) s h (log-of w i s u) (i .of-history) (p .content .name) p e) ∙ prepares in
             not-both (k .unprepared) is in
             total-other p new n (up s) (up (appended s place row)) h (recordAppended (recordOf row) end ∷ h) (appended-records h (recordOf row) end .records) d carried
             (left-appended c (w .log) _ s h place row (log-of w i s u) (i .of-history) (recordAppended (recordOf row) end ∷ h) x y new (appended-records h (recordOf row) end .records) inside p e d d) (waits e f)
@@ -152,7 +156,7 @@ module _ (p : Logged) (prepares : isPrepare (p .content .status) ≡ true) (n : 
           let f : found (λ (y : Logged). eqb (statusCode (y .content .status)) (statusCode (p .content .status) + 2)) (nextOf p h) ≡ true = and-right (isPrepare (p .content .status)) _ e in
           true≢false (sym (rw z at f))
 
-      -- the tally with the order counted
+      -- the total, with an order for another prepare
       counted : (o .for ≡ p .number → ⊥) → TotalOrders p n (up s) h → TotalOrders p n (up s) v
       counted d (over e f) = over (rw records e) (same-count d ∙ f)
       counted d (waits e f) = waits (rw records e) (ap (λ (m : ℕ). m + leftOf p (up s)) (same-count d) ∙ f)
@@ -198,7 +202,8 @@ module _ (p : Logged) (prepares : isPrepare (p .content .status) ≡ true) (n : 
           go (waits e f) (yes q) =
               over (completed-now c p new h (recordAppended (recordOf done) end ∷ v) all (i .of-history) e prepares (let b = below in omega arith) (row-name ∙ ap (λ (y : Logged). y .content .name) (same-prepare q))
               (complete-code (row .status) row-prepares ∙ ap (λ (m : ℕ). m + 2) (ap (λ (y : Row). statusCode (y .status)) (row-is w i s u o way) ∙ ap (λ (y : Logged). statusCode (y .content .status)) (same-prepare q))))
-              (let a : carriedFor p (recordAppended (recordOf done) end ∷ v) ≡ carriedFor p v = rw carried refl in let b = carried-here q in let d = own-left q in let m = eqb-true (count (outstanding row)) 1 last in omega arith)
+              (let a : carriedFor p (recordAppended (recordOf done) end ∷ v) ≡ carriedFor p v = rw carried refl in let b = carried-here q in let d = own-left q in let m = eqb-true
+              (count (outstanding row)) 1 last in omega arith)
             where
               below : p .number < length h
               below = each-in (λ (y : Logged). y .number < length h) (recordsOf h) p (numbered-below (length h) (recordsOf h) (i .of-history .numbered)) stands
@@ -221,14 +226,19 @@ module _ (p : Logged) (prepares : isPrepare (p .content .status) ≡ true) (n : 
           go : TotalOrders p n (up s) h → Dec (o .for ≡ p .number) → TotalOrders p n (up noted) v
           go (over e f) q = over (rw records e) (same-count (not-over e) ∙ f)
           go (waits e f) (yes q) =
-              let at : placeOf (noted .table) (p .content .name) ≡ o .place = place-acknowledged s (o .place) (o .position) (p .content .name) ∙ place-is (p .content .name) ∙ ap (λ (y : Logged). placeIn c (recordsOf h) (y .content .name)) (sym (same-prepare q)) ∙ it w i s u o way .place in
-              let left : leftOf p (up noted) ≡ count (difference (row .joined) (insert (row .acknowledged) (o .position))) = ap (λ (k : ℕ). count (outstanding (rowAt (noted .table) k))) at ∙ ap (λ (y : Row). count (outstanding y)) (acknowledged-row s (o .place) (o .position) inside) in
-              let one = count-left 64 (row .joined) (row .acknowledged) (o .position) (joined-small w i s u o way) (acks-of w i s u .small (o .place)) (position-below w i s u o way) (member-true (row .joined) (o .position) (row-joins w i s u o way)) (member-false (row .acknowledged) (o .position) (way .waits)) in
+              let at : placeOf (noted .table) (p .content .name) ≡ o .place = place-acknowledged s (o .place) (o .position) (p .content .name) ∙ place-is (p .content .name)
+              ∙ ap (λ (y : Logged). placeIn c (recordsOf h) (y .content .name)) (sym (same-prepare q)) ∙ it w i s u o way .place in
+              let left : leftOf p (up noted) ≡ count (difference (row .joined) (insert (row .acknowledged) (o .position))) = ap (λ (k : ℕ). count (outstanding (rowAt (noted .table) k))) at
+              ∙ ap (λ (y : Row). count (outstanding y)) (acknowledged-row s (o .place) (o .position) inside) in
+              let one = count-left 64 (row .joined) (row .acknowledged) (o .position) (joined-small w i s u o way) (acks-of w i s u .small (o .place)) (position-below w i s u o way)
+              (member-true (row .joined) (o .position) (row-joins w i s u o way)) (member-false (row .acknowledged) (o .position) (way .waits)) in
               waits (rw records e) (let a = carried-here q in let b = own-left q in omega arith)
           go (waits e f) (no d) =
               let other : placeOf (s .table) (p .content .name) ≡ o .place → ⊥ = λ z. other-name d e
-              (sym (place-name c (recordsOf h) (i .of-history .come) (i .of-history .ends) (p .content .name) (r .content .name) p r e (for-latest c h (i .of-history) o r (it w i s u o way .there) (it w i s u o way .is-for)) (sym (place-is (p .content .name)) ∙ z ∙ sym (it w i s u o way .place)))) in
-              let left : leftOf p (up noted) ≡ leftOf p (up s) = ap (λ (k : ℕ). count (outstanding (rowAt (noted .table) k))) (place-acknowledged s (o .place) (o .position) (p .content .name)) ∙ ap (λ (y : Row). count (outstanding y)) (row-there (placeOf (s .table) (p .content .name)) other) in
+              (sym (place-name c (recordsOf h) (i .of-history .come) (i .of-history .ends) (p .content .name) (r .content .name) p r e
+              (for-latest c h (i .of-history) o r (it w i s u o way .there) (it w i s u o way .is-for)) (sym (place-is (p .content .name)) ∙ z ∙ sym (it w i s u o way .place)))) in
+              let left : leftOf p (up noted) ≡ leftOf p (up s) = ap (λ (k : ℕ). count (outstanding (rowAt (noted .table) k))) (place-acknowledged s (o .place) (o .position) (p .content .name))
+              ∙ ap (λ (y : Row). count (outstanding y)) (row-there (placeOf (s .table) (p .content .name)) other) in
               waits (rw records e) (ap (λ (m : ℕ). carriedFor p v + m) left ∙ ap (λ (m : ℕ). m + leftOf p (up s)) (same-count d) ∙ f)
             where
               row-there : (k : ℕ) → (k ≡ o .place → ⊥) → rowAt (noted .table) k ≡ rowAt (s .table) k
@@ -291,7 +301,8 @@ module _ (p : Logged) (prepares : isPrepare (p .content .status) ≡ true) (n : 
           let none-acked = opening-valid (w .text) (w .log) m epoch first last accepted .0 .none-acknowledged k in
           let joined : rowAt (s .table) k .joined ≡ p .content .joined = ap (λ (y : Row). y .joined) row-is in
           let small : p .content .joined < 2 ^ 64 = well-formed-parts c (p .content) (come-record c (recordsOf h) (i .of-history .come) p stands .0) .joined-below in
-          let left : leftOf p (v .phase) ≡ listed p = ap (leftOf p) e ∙ ap count (ap (λ (z : ℕ). difference (rowAt (s .table) k .joined) z) none-acked ∙ ap (λ (z : ℕ). difference z 0) joined ∙ difference-none (p .content .joined) small) in
+          let left : leftOf p (v .phase) ≡ listed p = ap (leftOf p) e ∙ ap count
+          (ap (λ (z : ℕ). difference (rowAt (s .table) k .joined) z) none-acked ∙ ap (λ (z : ℕ). difference z 0) joined ∙ difference-none (p .content .joined) small) in
           waits a′ (ap (λ (z : ℕ). z + leftOf p (v .phase)) (rw carried refl) ∙ ap (λ (z : ℕ). carriedFor p h + z) left ∙ b)
 
   -- ---- items
@@ -302,7 +313,8 @@ module _ (p : Logged) (prepares : isPrepare (p .content .status) ≡ true) (n : 
   next-counts : (x : Item) → inLists x ≡ true → Undisturbed (c .all) x → Counts (next x w)
   next-counts (call lent k) so d =
       while-up-cases Counts w same-world _ (λ s u. lent-cases Counts w same-world lent (actionOf k s) s
-      (λ o. acts s u (actionOf k s (length (w .log))) (byCall k (and-left (callTyped k) (not (isAck k)) so) refl) (call-flushed-first s (live-ready c (w .log) s h (log-of w i s u) (i .of-history)) (length (w .log)) k (not-true (isAck k) (and-right (callTyped k) (not (isAck k)) so))))
+      (λ o. acts s u (actionOf k s (length (w .log))) (byCall k (and-left (callTyped k) (not (isAck k)) so) refl)
+      (call-flushed-first s (live-ready c (w .log) s h (log-of w i s u) (i .of-history)) (length (w .log)) k (not-true (isAck k) (and-right (callTyped k) (not (isAck k)) so))))
       (λ m e. elsewhere s u m e k))
     where
       refused : (s : Coordinator) (u : w .phase ≡ up s) (m : ℕ) → (m ≡ length (w .log) → ⊥) → (k : CoordinatorCall) → takesLog k ≡ true → Counts (coordinatorElsewhere (actionOf k s m) s w)
@@ -314,7 +326,8 @@ module _ (p : Logged) (prepares : isPrepare (p .content .status) ≡ true) (n : 
       elsewhere s u m e (endCall name pid epoch verdict time) = refused s u m e (endCall name pid epoch verdict time) refl
       elsewhere s u m e (tickCall time) = refused s u m e (tickCall time) refl
       elsewhere s u m e (flushCall length) =
-          subst Counts (sym (flush-elsewhere length s w)) (acts s u (flush s length .action) (byCall (flushCall length) refl refl) (call-flushed-first s (live-ready c (w .log) s h (log-of w i s u) (i .of-history)) 0 (flushCall length) refl))
+          subst Counts (sym (flush-elsewhere length s w)) (acts s u (flush s length .action) (byCall (flushCall length) refl refl)
+          (call-flushed-first s (live-ready c (w .log) s h (log-of w i s u) (i .of-history)) 0 (flushCall length) refl))
       elsewhere s u m e (ackCall place pid epoch position) = refused s u m e (ackCall place pid epoch position) refl
   next-counts (callOrder set) so d =
       while-up-cases Counts w same-world _
@@ -331,7 +344,8 @@ module _ (p : Logged) (prepares : isPrepare (p .content .status) ≡ true) (n : 
       while-up-cases Counts w same-world _
       (λ s u. deliverable-cases Counts w same-world m _
       (λ o e. leader-cases Counts w same-world lent (o .position) _ _ _ (λ l. let y = leaderAt w (o .position) in
-      led (o .position) (marker (y .partition) (length (y .words)) (o .place) (o .pid) (o .epoch) (o .verdict) (o .coordinator) .action) (markerWritten o) _ (marker-records h o .records) refl) (λ k f. resting _ refl refl refl)))
+      led (o .position) (marker (y .partition) (length (y .words)) (o .place) (o .pid) (o .epoch) (o .verdict) (o .coordinator) .action) (markerWritten o) _ (marker-records h o .records) refl)
+      (λ k f. resting _ refl refl refl)))
   next-counts (acknowledge own m) so d =
       while-up-cases Counts w same-world _ (λ s u. acknowledgeable-cases Counts w same-world m _ (λ o e. acked s u o (carrying-of s u (toAcknowledge m o) e .0)))
   next-counts (acknowledge (another slice) m) so d = absurd d
