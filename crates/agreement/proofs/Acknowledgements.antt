@@ -1,5 +1,5 @@
 -- Acknowledgements and open entries: what is acknowledged is closed, and a prepare waits for some partition.
-use Prim.Native.Nat.{ℕ, _+_, _<_, _^_, _-_}
+use Prim.Native.Nat.{ℕ, _+_, _<_, _^_}
 use mathlib.Core.Path.{_≡_, refl, sym, ap, subst, _∙_}
 use mathlib.Core.Logic.{_≢_}
 use mathlib.Core.Bool.{true, false}

@@ -1,5 +1,5 @@
 -- Ack as it is carried: it is never refused, and completes a prepare only when nothing of its name is open.
-use Prim.Native.Nat.{ℕ, _-_, _<_, _^_}
+use Prim.Native.Nat.{ℕ, _<_, _^_}
 use mathlib.Core.Path.{_≡_, refl, sym, ap, subst, _∙_}
 use mathlib.Core.Bool.{true, false}
 use mathlib.Core.List.{List, _∷_}
@@ -26,7 +26,7 @@ use Rattle.answers.proofs.Laws.{none-is, unless-does}
 use Rattle.row.specs.Row.{free, isPrepare, held, withAcknowledged}
 use Rattle.row.specs.declared.Row.{Row}
 use Rattle.table.specs.Table.{rowAt}
-use Rattle.coordinator.specs.Coordinator.{admits, keep, acknowledged}
+use Rattle.coordinator.specs.Coordinator.{admits, keep}
 use Rattle.coordinator.specs.Ack.{lastOutstanding, ackTests, ackRowTests, ackAction, ack}
 use Rattle.coordinator.specs.declared.Coordinator.{Coordinator}
 use Rattle.coordinator.specs.Calls.{ackCall}

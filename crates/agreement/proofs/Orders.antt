@@ -18,7 +18,6 @@ use Rattle.bits.proofs.Laws.{member-is, lowest-member, left-parts, subset-and, 
 use Rattle.catalogue.specs.declared.Catalogue.{Catalogue}
 use Rattle.record.specs.Record.{statusCode, wellFormed}
 use Rattle.record.specs.declared.Record.{Record}
-use Rattle.record.proofs.Statuses.{each}
 use Rattle.record.proofs.Bounds.{well-formed-parts}
 use Rattle.search.proofs.Found.{found-is, found-with}
 use Rattle.search.proofs.Members.{In}

@@ -1,7 +1,6 @@
 -- The row of a prepare that is its name's latest record: what Order and Ack find at its place.
 use Prim.Native.Nat.{ℕ, _-_, _≤_, _<_, _^_}
 use mathlib.Core.Bool.{true, false}
-use mathlib.Core.Option.{some}
 use mathlib.Core.Path.{_≡_, sym, ap, subst, _∙_}
 use native.Mathlib.Omega.{arith}
 use lib.Bits.{and-le-l}
@@ -14,7 +13,7 @@ use Rattle.search.proofs.Members.{In}
 use Rattle.row.specs.Row.{isPrepare, outstanding, withAcknowledged, held}
 use Rattle.row.specs.declared.Row.{Row}
 use Rattle.table.specs.Table.{rowAt}
-use Rattle.coordinator.specs.Coordinator.{unflushed, acknowledged}
+use Rattle.coordinator.specs.Coordinator.{unflushed}
 use Rattle.coordinator.specs.Order.{due, ordered}
 use Rattle.coordinator.specs.declared.Coordinator.{Coordinator}
 use Rattle.coordinator.proofs.OrderCases.{ordered-is}

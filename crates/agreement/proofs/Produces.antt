@@ -1,5 +1,5 @@
 -- Produce: the entry that it writes is for a name whose latest record is a flushed BEGIN of its producer, and the state agrees after it.
-use Prim.Native.Nat.{ℕ, _+_, _*_, _-_, _≤_, _<_}
+use Prim.Native.Nat.{ℕ, _+_, _*_, _≤_, _<_}
 use mathlib.Core.Path.{_≡_, refl, sym, ap, subst, _∙_}
 use mathlib.Core.Logic.{_≢_}
 use mathlib.Core.Bool.{true, true≢false}
@@ -31,7 +31,7 @@ use Rattle.answers.specs.Limits.{places}
 use Rattle.answers.specs.Refusals.{firstRefusal}
 use Rattle.answers.specs.declared.ProduceAnswer.the-variants.{Refused}
 use Rattle.answers.proofs.Laws.{unless-does}
-use Rattle.row.specs.Row.{isPrepare, held}
+use Rattle.row.specs.Row.{isPrepare}
 use Rattle.row.specs.declared.Row.{Row}
 use Rattle.row.proofs.Laws.{is-begin}
 use Rattle.table.specs.Table.{rowAt}

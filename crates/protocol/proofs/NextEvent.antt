@@ -9,7 +9,6 @@
 -- one pid, so every open entry of that producer there belongs to that prepare; from then on it stands under that prepare's verdict. None of them is open
 -- any more, so no second marker is written for that prepare on that partition.
 -- A complete record is appended only when nothing of its name is open, so every entry of a completed transaction stands under its prepare's verdict.
-use Prim.Native.Nat.{_-_}
 use mathlib.Core.List.{_∷_}
 use Rattle.catalogue.specs.declared.Catalogue.{Catalogue}
 use Rattle.runs.specs.History.{Event, recordAppended, logFlushed, logCut, logOpened, orderGiven, markerWritten, orderCarried, entryWritten, History}

@@ -1,5 +1,5 @@
 -- Every entry of a completed prepare's transaction stands under its verdict.
-use Prim.Native.Nat.{ℕ, _+_, _-_}
+use Prim.Native.Nat.{ℕ, _+_}
 use mathlib.Core.Path.{_≡_, sym, ap, subst, _∙_}
 use mathlib.Core.Bool.{true, true≢false, _&&_}
 use mathlib.Core.List.{List}

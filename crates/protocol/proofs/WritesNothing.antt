@@ -1,5 +1,5 @@
 -- Flush, a cut, an opening, an order given and an order carried write no record, no entry and no marker: one law keeps the invariant.
-use Prim.Native.Nat.{ℕ, suc, _-_, _≤_}
+use Prim.Native.Nat.{ℕ, suc, _≤_}
 use mathlib.Core.Path.{_≡_, refl, sym, ap, _∙_}
 use mathlib.Core.List.{[], _∷_}
 use native.Mathlib.Omega.{arith}
