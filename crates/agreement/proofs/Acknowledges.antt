@@ -45,15 +45,14 @@ use Rattle.protocol.proofs.Consequences.{for-latest, open-now}
 use Rattle.protocol.proofs.WritesNothing.{carried-writes-nothing}
 use Rattle.protocol.proofs.Extends.{Extends, extends-then}
 use Rattle.agreement.proofs.Invariant.{placeIn, NoneOpen, UnderWay, Invariant}
-use Rattle.agreement.proofs.FlushedFirst.{proper, own-place}
-use Rattle.agreement.proofs.LiveTable.{live-ready, live-latest, live-place}
+use Rattle.agreement.proofs.FlushedFirst.{own-place}
 use Rattle.agreement.proofs.LogSteps.{MayAppend}
 use Rattle.agreement.proofs.Rows.{none-open-at}
 use Rattle.agreement.proofs.Acknowledgements.{none-open-kept, acks-noted}
-use Rattle.agreement.proofs.Preserves.{Preserves, AcknowledgesClosed, none-carried, log-of, acks-of, did}
+use Rattle.agreement.proofs.Preserves.{Preserves, AcknowledgesClosed, none-carried, log-of, acks-of, did, ready-of, rows-of, row-of, place-of}
 use Rattle.agreement.proofs.PreparedRow.{row-flushed, row-small, row-prepares}
 use Rattle.agreement.proofs.Orders.{OrderOnly, order-only-preserves, way-same, prepare-held}
-use Rattle.agreement.proofs.Delivers.{ItsPrepare, its, place-below, position-listed}
+use Rattle.agreement.proofs.Delivers.{PrepareOf, prepare-of, place-below, position-listed}
 
 module _ (w : World) (i : Invariant w) (s : Coordinator) (u : w .phase ≡ up s) (o : Order) (way : UnderWay (catalogueOf w) (w .history) s o) where
   abbrev c : Catalogue
@@ -68,8 +67,8 @@ module _ (w : World) (i : Invariant w) (s : Coordinator) (u : w .phase ≡ up s)
   abbrev row : Row
   row = rowAt (s .table) k0
 
-  pub it : ItsPrepare w i s u o way
-  it = its w i s u o way
+  abbrev it : PrepareOf w i s u o way
+  it = prepare-of w i s u o way
 
   abbrev r : Logged
   r = it .prepare
@@ -79,8 +78,8 @@ module _ (w : World) (i : Invariant w) (s : Coordinator) (u : w .phase ≡ up s)
 
   -- the row of its place is its prepare's
   pub row-is : withAcknowledged row 0 ≡ held (r .content) (r .end)
-  row-is = subst (λ (k : ℕ). withAcknowledged (rowAt (s .table) k) 0 ≡ held (r .content) (r .end)) (live-place c (w .log) s h (log-of w i s u) (i .of-history) (r .content .name) ∙ it .place)
-      (live-latest c (w .log) s h (log-of w i s u) (i .of-history) (r .content .name) r latest-is)
+  row-is = subst (λ (k : ℕ). withAcknowledged (rowAt (s .table) k) 0 ≡ held (r .content) (r .end)) (place-of w i s u (r .content .name) ∙ it .place)
+      (row-of w i s u (r .content .name) r latest-is)
 
   pub row-joins : member (row .joined) (o .position) ≡ true
   row-joins = ap (λ (y : Row). member (y .joined) (o .position)) row-is ∙ it .is-for .position
@@ -138,7 +137,7 @@ module _ (w : World) (i : Invariant w) (s : Coordinator) (u : w .phase ≡ up s)
 
   module _ (n : NoneOpen c h (recordsOf h) (o .position) k0) where
     inside : k0 < length (s .table .rows)
-    inside = let b = place-below w i s u o way in omega (arith, proper s (live-ready c (w .log) s h (log-of w i s u) (i .of-history)) .all)
+    inside = let b = place-below w i s u o way in omega (arith, rows-of w i s u)
 
     well : MayAppend s h (ack s (length (w .log)) k0 (o .pid) (o .epoch) (o .position) .action)
     unfolding ack ackAction
@@ -146,7 +145,7 @@ module _ (w : World) (i : Invariant w) (s : Coordinator) (u : w .phase ≡ up s)
         unless-does (firstRefusal (ackTests s (length (w .log)) k0 (o .pid) (o .epoch) (o .position))) Refused keep _ (MayAppend s h) tt
         (λ e. by-cases (MayAppend s h) (member (row .acknowledged) (o .position)) (λ m. tt)
         (λ m. by-cases (MayAppend s h) (lastOutstanding row)
-        (λ l. let own = own-place s (live-ready c (w .log) s h (log-of w i s u) (i .of-history)) k0 row-held in
+        (λ l. let own = own-place s (ready-of w i s u) k0 row-held in
         (rw own (ack-passed s (length (w .log)) k0 (o .pid) (o .epoch) (o .position) e .flushed), λ p. nothing-open n l)) (λ l. tt)))
 
     notes : AcknowledgesClosed c s h (ack s (length (w .log)) k0 (o .pid) (o .epoch) (o .position) .action)

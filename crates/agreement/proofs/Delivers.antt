@@ -84,26 +84,26 @@ module _ (w : World) (i : Invariant w) (s : Coordinator) (u : w .phase ≡ up s)
   k0 = o .place
 
   -- its prepare
-  pub record ItsPrepare : Type 0 where
+  pub record PrepareOf : Type 0 where
     pub prepare : Logged
     pub there : In prepare (recordsOf h)
     pub found : recordNumbered (o .for) h ≡ some prepare
     pub is-for : IsFor o h prepare
     pub place : placeIn c (recordsOf h) (prepare .content .name) ≡ k0
 
-  pub its : ItsPrepare
-  its =
+  pub prepare-of : PrepareOf
+  prepare-of =
       found-with (λ (q : Logged). IsFor o h q × (placeIn c (recordsOf h) (q .content .name) ≡ k0)) (recordNumbered (o .for) h) (way .for-prepare)
       (λ q e f. record { prepare = q; there = find-in (λ (y : Logged). eqb (y .number) (o .for)) (recordsOf h) q e; found = e; is-for = f .0; place = f .1 })
 
   abbrev r : Logged
-  r = its .prepare
+  r = prepare-of .prepare
 
   abbrev f : IsFor o h r
-  f = its .is-for
+  f = prepare-of .is-for
 
   formed : wellFormed c (r .content) ≡ true
-  formed = come-record c (recordsOf h) (i .of-history .come) r (its .there) .0
+  formed = come-record c (recordsOf h) (i .of-history .come) r (prepare-of .there) .0
 
   -- ---- the numbers of an order
 
@@ -111,18 +111,18 @@ module _ (w : World) (i : Invariant w) (s : Coordinator) (u : w .phase ≡ up s)
   pid-natural = let (n, e) = well-formed-parts c (r .content) formed .pid-natural in (n, sym (f .pid) ∙ e)
 
   epoch-natural : (n : ℕ) × (o .epoch ≡ pos n)
-  epoch-natural = let (n, e, _) = at-least 0 (r .content .epoch) (come-record c (recordsOf h) (i .of-history .come) r (its .there) .1 .epoch-natural) in (n, sym (f .epoch) ∙ e)
+  epoch-natural = let (n, e, _) = at-least 0 (r .content .epoch) (come-record c (recordsOf h) (i .of-history .come) r (prepare-of .there) .1 .epoch-natural) in (n, sym (f .epoch) ∙ e)
 
   pub verdict-most : o .verdict ≤ 1
   verdict-most = let b = prepare-code (r .content .status) (f .prepare) in omega (arith, f .verdict)
 
   latest-is : latestIn (r .content .name) (recordsOf h) ≡ some r
-  latest-is = for-latest c h (i .of-history) o r (its .there) f
+  latest-is = for-latest c h (i .of-history) o r (prepare-of .there) f
 
   pub place-below : k0 < places
   place-below =
       let holding = table-latest c (recordsOf h) (i .of-history .come) (i .of-history .ends) (r .content .name) (latest-starts c (recordsOf h) (i .of-history .come) (r .content .name) r latest-is) r latest-is .0 in
-      subst (λ (k : ℕ). k < places) (its .place) (ltb-true (placeIn c (recordsOf h) (r .content .name)) places holding)
+      subst (λ (k : ℕ). k < places) (prepare-of .place) (ltb-true (placeIn c (recordsOf h) (r .content .name)) places holding)
 
   pub position-listed : member (c .all) x ≡ true
   position-listed =
@@ -150,11 +150,11 @@ module _ (w : World) (i : Invariant w) (s : Coordinator) (u : w .phase ≡ up s)
       let admitted : admits p (length words) ≡ true = admits-length p (own .reserved) (length words) ∙ eq-eqb (length words) (p .room) (own .room) in
       let (n, n-is) = pid-natural in
       let (m, m-is) = epoch-natural in
-      let row : rowAt (tableOf c (contents (recordsOf h))) k0 ≡ held (r .content) (r .end) = subst (λ (j : ℕ). rowAt (tableOf c (contents (recordsOf h))) j ≡ held (r .content) (r .end)) (its .place)
+      let row : rowAt (tableOf c (contents (recordsOf h))) k0 ≡ held (r .content) (r .end) = subst (λ (j : ℕ). rowAt (tableOf c (contents (recordsOf h))) j ≡ held (r .content) (r .end)) (prepare-of .place)
       (place-row c (recordsOf h) (i .of-history .come) (i .of-history .ends) (r .content .name) r latest-is) in
       let epochs : producerAt p k0 .pid ≡ toNat (o .pid) → producerAt p k0 .epoch ≤ toNat (o .epoch) = λ e.
       let low = subst (λ (l : List Logged). NotAhead (producerAt p k0) (rowAt (tableOf c (contents l)) k0)) view (all .rows .epochs k (omega arith) k0) in
-      let high : producerAt p k0 .epoch ≤ toNat (r .content .epoch) = subst (NotAhead (producerAt p k0)) row low (held-busy c (recordsOf h) (i .of-history .come) r (its .there)) (e ∙ ap toNat (sym (f .pid))) in
+      let high : producerAt p k0 .epoch ≤ toNat (r .content .epoch) = subst (NotAhead (producerAt p k0)) row low (held-busy c (recordsOf h) (i .of-history .come) r (prepare-of .there)) (e ∙ ap toNat (sym (f .pid))) in
       omega (arith, ap toNat (f .epoch)) in
       let low : p .coordinator ≤ toNat (o .coordinator) = omega (arith, leaders-of w i s u x .coordinator, coordinator-is) in
       none-is (markerTests p (length words) k0 (o .pid) (o .epoch) (o .verdict) (o .coordinator)) (
@@ -192,7 +192,7 @@ module _ (w : World) (i : Invariant w) (s : Coordinator) (u : w .phase ≡ up s)
         coordinator = subst (λ (y : Phase). toNat (o .coordinator) ≤ epochOf y) (sym u) (omega (arith, coordinator-is));
       })
       (λ y m. i .leaders y)
-      (subst (λ (y : Phase). CarryingSide c h y (toAcknowledge n o)) (sym u) (way, none-open-unless c h (i .of-history) o r (its .there) f k0 (its .place) x p (i .leaders x .rows) refl (λ s. d)))
+      (subst (λ (y : Phase). CarryingSide c h y (toAcknowledge n o)) (sym u) (way, none-open-unless c h (i .of-history) o r (prepare-of .there) f k0 (prepare-of .place) x p (i .leaders x .rows) refl (λ s. d)))
 
   module _ (e : producerAt p k0 .pid ≡ toNat (o .pid)) where
     abbrev q : Producer
@@ -222,11 +222,11 @@ module _ (w : World) (i : Invariant w) (s : Coordinator) (u : w .phase ≡ up s)
         leader-preserves w i x below _ (toAcknowledge n o) h still (i .offsets) (i .log-side) (i .acks)
         (record {
           words = i .leaders x .words;
-          rows = rows-noted c h (i .of-history) o r (its .there) f k0 (its .place) x p (i .leaders x .rows) refl (partitionAfter (note (toNat (o .coordinator)) k0 q) p) q here others q-shut q-pid q-epoch (omega arith) d;
+          rows = rows-noted c h (i .of-history) o r (prepare-of .there) f k0 (prepare-of .place) x p (i .leaders x .rows) refl (partitionAfter (note (toNat (o .coordinator)) k0 q) p) q here others q-shut q-pid q-epoch (omega arith) d;
           coordinator = subst (λ (y : Phase). toNat (o .coordinator) ≤ epochOf y) (sym u) (omega (arith, coordinator-is));
         })
         (λ y m. i .leaders y)
-        (subst (λ (y : Phase). CarryingSide c h y (toAcknowledge n o)) (sym u) (way, none-open-unless c h (i .of-history) o r (its .there) f k0 (its .place) x p (i .leaders x .rows) refl (λ s y. not-both d s)))
+        (subst (λ (y : Phase). CarryingSide c h y (toAcknowledge n o)) (sym u) (way, none-open-unless c h (i .of-history) o r (prepare-of .there) f k0 (prepare-of .place) x p (i .leaders x .rows) refl (λ s y. not-both d s)))
 
     -- an open one: the marker is written
     closes : producerAt p k0 .ongoing ≡ true → (n : ℕ) → Preserves w (leaderDoes x (closeTransaction k0 (producerAt p k0) (toNat (o .epoch)) (o .verdict) (toNat (o .coordinator))) (markerWritten o) (toAcknowledge n o) w)
@@ -237,7 +237,7 @@ module _ (w : World) (i : Invariant w) (s : Coordinator) (u : w .phase ≡ up s)
         (subst (λ (y : Phase). AcksSide c y (markerWritten o ∷ h)) (sym u) (acks-kept c h s (markerWritten o) (λ y k m z. none-open-marked c h o y k z) (acks-of w i s u)))
         (record {
           words = new-words;
-          rows = rows-marked c h (i .of-history) o r (its .there) f k0 (its .place) x p (i .leaders x .rows) refl
+          rows = rows-marked c h (i .of-history) o r (prepare-of .there) f k0 (prepare-of .place) x p (i .leaders x .rows) refl
               (partitionAfter (write (toNat (o .coordinator)) k0 q four) p) q here others q-shut q-pid q-epoch (omega arith);
           coordinator = subst (λ (y : Phase). toNat (o .coordinator) ≤ epochOf y) (sym u) (omega (arith, coordinator-is));
         })
@@ -257,10 +257,10 @@ module _ (w : World) (i : Invariant w) (s : Coordinator) (u : w .phase ≡ up s)
         may : Markable h o
         may =
             record {
-              for-prepare = found-is (IsFor o h) (its .found) f;
+              for-prepare = found-is (IsFor o h) (prepare-of .found) f;
               some-open = λ z. i .leaders x .rows .row-entry k (omega arith) k0 d
                   (in-each _ (entriesOf h) (λ y j a b g. each-in (λ (y : Entry). y .what .position ≡ o .position → y .what .pid ≡ o .pid → underOf h y ≡ 0 → ⊥) (entriesOf h) y z j a
-                  (place-pid c h (i .of-history) o r (its .there) f k0 (its .place) k (omega arith) y j b g) b));
+                  (place-pid c h (i .of-history) o r (prepare-of .there) f k0 (prepare-of .place) k (omega arith) y j b g) b));
             }
 
         four : List ℕ
@@ -279,7 +279,7 @@ module _ (w : World) (i : Invariant w) (s : Coordinator) (u : w .phase ≡ up s)
         none-left : NoneOpen c (markerWritten o ∷ h) (recordsOf (markerWritten o ∷ h)) x k0
         none-left =
             rw (marker-records h o .records, same-entries (markerWritten o) h refl)
-            (in-each _ (entriesOf h) (λ y j a b g. marked-none c h (i .of-history) o r (its .there) f k0 (its .place) k (omega arith) y j a (ap (λ (l : List Logged). placeIn c l (y .what .name)) view ∙ g) b))
+            (in-each _ (entriesOf h) (λ y j a b g. marked-none c h (i .of-history) o r (prepare-of .there) f k0 (prepare-of .place) k (omega arith) y j a (ap (λ (l : List Logged). placeIn c l (y .what .name)) view ∙ g) b))
 
   pub delivers-own : (n : ℕ) → Preserves w (leaderDoes x (marker p (length words) k0 (o .pid) (o .epoch) (o .verdict) (o .coordinator) .action) (markerWritten o) (onceDone (reply (marker p (length words) k0 (o .pid) (o .epoch) (o .verdict) (o .coordinator) .answer)) n o) w)
   delivers-own n =

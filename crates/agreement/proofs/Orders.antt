@@ -44,9 +44,9 @@ use Rattle.protocol.proofs.WritesNothing.{WritesNothing, given-writes-nothing}
 use Rattle.protocol.proofs.Extends.{kept-stands}
 use Rattle.agreement.proofs.Invariant.{placeIn, AcksSide, UnderWay, CarryingSide, Invariant}
 use Rattle.agreement.proofs.FlushedFirst.{proper}
-use Rattle.agreement.proofs.LiveTable.{live-ready, live-record-at, RecordAt}
+use Rattle.agreement.proofs.LiveTable.{live-record-at, RecordAt}
 use Rattle.agreement.proofs.Acknowledgements.{none-open-kept, acks-kept}
-use Rattle.agreement.proofs.Preserves.{Preserves, log-same, log-of, acks-of, idles, unwritten-preserves}
+use Rattle.agreement.proofs.Preserves.{Preserves, log-same, log-of, acks-of, idles, unwritten-preserves, rows-of, ready-of}
 
 -- ---- an event that says something of an order alone
 
@@ -106,7 +106,7 @@ orderOf s set place h =
 -- a prepare's place is held
 pub prepare-held : (w : World) (i : Invariant w) (s : Coordinator) (u : w .phase ≡ up s) (k : ℕ) → isPrepare (rowAt (s .table) k .status) ≡ true → free (rowAt (s .table) k) ≡ false
 prepare-held w i s u k p =
-    busy-held (rowAt (s .table) k) (proper s (live-ready (catalogueOf w) (w .log) s (w .history) (log-of w i s u) (i .of-history)) .each k) (prepare-busy (rowAt (s .table) k .status) p)
+    busy-held (rowAt (s .table) k) (proper s (ready-of w i s u) .each k) (prepare-busy (rowAt (s .table) k .status) p)
 
 module _ (w : World) (i : Invariant w) (s : Coordinator) (u : w .phase ≡ up s) (set : ℕ) (place : ℕ) (o : Ordered s set (rowAt (s .table) place)) where
   abbrev c : Catalogue
@@ -193,7 +193,7 @@ module _ (w : World) (i : Invariant w) (s : Coordinator) (u : w .phase ≡ up s)
 
 pub orders : (w : World) (i : Invariant w) (s : Coordinator) (u : w .phase ≡ up s) (set : ℕ) → Preserves w (orderAnswered (order s set) s w)
 orders w i s u set =
-    let all = proper s (live-ready (catalogueOf w) (w .log) s (w .history) (log-of w i s u) (i .of-history)) .all in
+    let all = rows-of w i s u in
     either (ltb (orderPlace s set) places)
     (λ e. let l = ltb-true (orderPlace s set) places e in rw (order-given s set l) (gives w i s u set (orderPlace s set) (order-found s set all l)))
     (λ e. rw (order-none s set (ltb-false (orderPlace s set) places e)) (idles w i))

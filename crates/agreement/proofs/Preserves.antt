@@ -1,24 +1,27 @@
 -- A step preserves the invariant if its history grows by events that may come next and the invariant holds after it (`Preserves`). Every action of the
 -- coordinator does, and every event that writes nothing.
 use Prim.Native.Nat.{ℕ, _+_, _≤_, _<_}
+use mathlib.Core.Option.{some}
 use mathlib.Core.Path.{_≡_, refl, sym, ap, subst, _∙_}
 use mathlib.Core.Bool.{true, false}
 use mathlib.Core.List.{List, [], _∷_}
 use native.Mathlib.Omega.{arith}
 use lib.ListN.{length}
+use borrow.Author.Tests.{ltb-true}
 use Rattle.numbers.proofs.Tests.{not-both}
 use Rattle.catalogue.specs.declared.Catalogue.{Catalogue}
 use Rattle.record.specs.Record.{wellFormed}
-use Rattle.row.specs.Row.{recordOf}
-use Rattle.table.specs.Table.{placeFor}
+use Rattle.answers.specs.Limits.{places}
+use Rattle.row.specs.Row.{recordOf, withAcknowledged, held}
+use Rattle.table.specs.Table.{placeFor, placeOf, rowAt}
 use Rattle.table.proofs.Records.{come-place}
 use Rattle.table.proofs.Unacknowledged.{unacknowledged, plain-place-for}
 use Rattle.coordinator.specs.Coordinator.{logEnd, rowFrame, Action, keep, advance, append, acknowledge as acknowledgeAt, flushTo, acknowledged, after}
 use Rattle.coordinator.specs.declared.Coordinator.{Coordinator}
 use Rattle.coordinator.specs.Calls.{CoordinatorCall, callTyped, actionOf}
 use Rattle.writer.proofs.Decisions.{Decided, byCall}
-use Rattle.writer.proofs.Lawful.{Lawful, decided-lawful}
-use Rattle.runs.specs.History.{Event, recordAppended, logFlushed, History, recordsOf, contents, flushedOf, wordsIn}
+use Rattle.writer.proofs.Lawful.{Lawful, decided-lawful, Ready}
+use Rattle.runs.specs.History.{Event, recordAppended, logFlushed, History, recordsOf, contents, flushedOf, wordsIn, Logged, latestOf}
 use Rattle.runs.specs.World.{Leader, Phase, up, down, nothing, World, catalogueOf, leaderAt, withCarrying, historyAfter, coordinatorDoes, isAck, Carrying}
 use Rattle.runs.proofs.Epochs.{epoch-kept}
 use Rattle.runs.proofs.Admitted.{Own}
@@ -28,9 +31,9 @@ use Rattle.protocol.specs.NextEvent.{MayBeNext}
 use Rattle.protocol.proofs.Events.{flush-records, same-entries}
 use Rattle.protocol.proofs.WritesNothing.{WritesNothing, flush-writes-nothing}
 use Rattle.protocol.proofs.Extends.{Extends, still, extends-keeps, more}
-use Rattle.agreement.proofs.Invariant.{UpLog, LogSide, LeaderAgrees, epochOf, AcksAgree, AcksSide, CarryingSide, Invariant}
+use Rattle.agreement.proofs.Invariant.{UpLog, LogSide, LeaderAgrees, epochOf, AcksAgree, AcksSide, CarryingSide, Invariant, placeIn}
 use Rattle.agreement.proofs.FlushedFirst.{FlushedFirst, call-flushed-first, proper}
-use Rattle.agreement.proofs.LiveTable.{live-ready, append-may}
+use Rattle.agreement.proofs.LiveTable.{live-ready, append-may, live-holds, live-latest, live-place}
 use Rattle.agreement.proofs.LogSteps.{MayAppend, up-acts, up-extends}
 use Rattle.agreement.proofs.Rows.{rows-unwritten, rows-append}
 use Rattle.agreement.proofs.Acknowledgements.{none-open-kept, acks-kept, acks-rows, acks-appended}
@@ -149,6 +152,26 @@ module _ (w : World) (i : Invariant w) where
     pub leaders-of : (x : ℕ) → LeaderAgrees c h (s .epoch) x (leaderAt w x)
     leaders-of x = subst (λ (p : Phase). LeaderAgrees c h (epochOf p) x (leaderAt w x)) u (i .leaders x)
 
+    -- what is carried
+    pub carrying-of : (k : Carrying) → w .carrying ≡ k → CarryingSide c h (up s) k
+    carrying-of k e = subst (λ (p : Phase). CarryingSide c h p k) u (subst (CarryingSide c h (w .phase)) e (i .carried))
+
+    -- the table: its rows, and the row, place and record of a name
+    pub ready-of : Ready s
+    ready-of = live-ready c (w .log) s h log-of (i .of-history)
+
+    pub rows-of : length (s .table .rows) ≡ places
+    rows-of = proper s ready-of .all
+
+    pub place-of : (name : List ℕ) → placeOf (s .table) name ≡ placeIn c (recordsOf h) name
+    place-of name = live-place c (w .log) s h log-of (i .of-history) name
+
+    pub row-of : (name : List ℕ) (x : Logged) → latestOf name h ≡ some x → withAcknowledged (rowAt (s .table) (placeOf (s .table) name)) 0 ≡ held (x .content) (x .end)
+    row-of name x e = live-latest c (w .log) s h log-of (i .of-history) name x e
+
+    pub place-inside : (name : List ℕ) (x : Logged) → latestOf name h ≡ some x → placeOf (s .table) name < places
+    place-inside name x e = ltb-true (placeOf (s .table) name) places (live-holds c (w .log) s h log-of (i .of-history) name x e)
+
     leaders-after : (a : Action) → Lawful s a → MayAppend s h a → (x : ℕ) → LeaderAgrees c (historyAfter a s h) (s .epoch) x (leaderAt w x)
     leaders-after keep l k x = leaders-of x
     leaders-after (advance clock) l k x = leaders-of x
@@ -174,7 +197,7 @@ module _ (w : World) (i : Invariant w) where
         inside : place < length (s .table .rows)
         inside =
             let at : placeFor (unacknowledged (s .table)) (row .name) ≡ place = plain-place-for (s .table) (row .name) ∙ l .place-is in
-            omega (arith, come-place (unacknowledged (s .table)) (recordOf row) (l .comes), proper s (live-ready c (w .log) s h log-of (i .of-history)) .all)
+            omega (arith, come-place (unacknowledged (s .table)) (recordOf row) (l .comes), rows-of)
     acks-after (acknowledgeAt place position) l k n = n
     acks-after (flushTo n) l k m =
         acks-rows c (logFlushed n ∷ h) s (after (flushTo n) s) (λ j. refl)
@@ -183,7 +206,7 @@ module _ (w : World) (i : Invariant w) where
     -- an action, lent the log buffer
     pub did : (a : Action) → Decided s (length (w .log)) a → MayAppend s h a → AcknowledgesClosed c s h a → Preserves w (coordinatorDoes a s w)
     did a d k n =
-        let l = decided-lawful s (live-ready c (w .log) s h log-of (i .of-history)) (length (w .log)) a d in
+        let l = decided-lawful s (ready-of) (length (w .log)) a d in
         let g = up-extends c (w .log) s h log-of (i .of-history) a l k in
         record {
           same-text = refl;
@@ -218,5 +241,5 @@ module _ (w : World) (i : Invariant w) where
 
     pub calls : (call : CoordinatorCall) → callTyped call ≡ true → isAck call ≡ false → Preserves w (coordinatorDoes (actionOf call s (length (w .log))) s w)
     calls call t b =
-        let k = call-flushed-first s (live-ready c (w .log) s h log-of (i .of-history)) (length (w .log)) call b in
+        let k = call-flushed-first s (ready-of) (length (w .log)) call b in
         did (actionOf call s (length (w .log))) (byCall call t refl) (flushed-first-may-append (actionOf call s (length (w .log))) k) (flushed-first-acknowledges (actionOf call s (length (w .log))) k)

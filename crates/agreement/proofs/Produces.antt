@@ -57,12 +57,11 @@ use Rattle.protocol.proofs.TableOfRecords.{come-record}
 use Rattle.protocol.proofs.Events.{entry-records, more-entries}
 use Rattle.protocol.proofs.Extends.{Extends, still, more, extends-keeps}
 use Rattle.agreement.proofs.Invariant.{LogSide, LeaderAgrees, epochOf, placeIn, NoneOpen, AcksSide, CarryingSide, Invariant}
-use Rattle.agreement.proofs.FlushedFirst.{proper}
-use Rattle.agreement.proofs.LiveTable.{live-ready, live-record-at, RecordAt}
+use Rattle.agreement.proofs.LiveTable.{live-record-at, RecordAt}
 use Rattle.agreement.proofs.RowsAfterProduce.{rows-entered, rows-entered-elsewhere}
 use Rattle.agreement.proofs.Acknowledgements.{none-open-entered, acks-kept}
 use Rattle.agreement.proofs.Words.{words-next, words-same}
-use Rattle.agreement.proofs.Preserves.{Preserves, log-same, none-carried, log-of, acks-of, idles}
+use Rattle.agreement.proofs.Preserves.{Preserves, log-same, none-carried, log-of, acks-of, idles, rows-of}
 
 -- ---- a leader
 
@@ -145,7 +144,7 @@ module _ (w : World) (i : Invariant w) (s : Coordinator) (u : w .phase ≡ up s)
     q = producerThen p k0 row sequence
 
     all : length (s .table .rows) ≡ places
-    all = proper s (live-ready c (w .log) s h (log-of w i s u) (i .of-history)) .all
+    all = rows-of w i s u
 
     st : RecordAt c (w .log) s h (log-of w i s u) (i .of-history) k0
     st = live-record-at c (w .log) s h (log-of w i s u) (i .of-history) k0 (held-row s all name (t .named) (t .held))

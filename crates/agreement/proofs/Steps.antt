@@ -21,12 +21,12 @@ use Rattle.partition.specs.Partition.{Action as PartitionAction, keep as keepPa
 use Rattle.server.specs.Produce.{produceTests, produce}
 use Rattle.server.proofs.ProduceCases.{produce-passed}
 use Rattle.runs.specs.History.{entryWritten}
-use Rattle.runs.specs.World.{Phase, up, Carrying, nothing, toDeliver, toAcknowledge, World, catalogueOf, leaderAt, FirstOpening, Accepted, start, own, another, Item, call, callOrder, callProduce, callRead, deliver, acknowledge, cut, reopen, isAck, inLists, leaderDoes, next, step, run}
+use Rattle.runs.specs.World.{up, nothing, toDeliver, toAcknowledge, World, catalogueOf, leaderAt, FirstOpening, Accepted, start, own, another, Item, call, callOrder, callProduce, callRead, deliver, acknowledge, cut, reopen, isAck, inLists, leaderDoes, next, step, run}
 use Rattle.runs.proofs.Admitted.{step-own}
 use Rattle.runs.proofs.Cases.{step-cases, while-up-cases, lent-cases, leader-cases, deliverable-cases, acknowledgeable-cases, read-cases, cut-cases, reopened-cases}
 use Rattle.protocol.proofs.Extends.{Extends, still, extends-then}
-use Rattle.agreement.proofs.Invariant.{CarryingSide, Invariant}
-use Rattle.agreement.proofs.Preserves.{Preserves, same, idles, calls}
+use Rattle.agreement.proofs.Invariant.{Invariant}
+use Rattle.agreement.proofs.Preserves.{Preserves, same, idles, calls, carrying-of}
 use Rattle.agreement.proofs.Orders.{orders}
 use Rattle.agreement.proofs.Produces.{keeps-leader, produces-own}
 use Rattle.agreement.proofs.Delivers.{delivers-own}
@@ -52,9 +52,6 @@ module _ (w : World) (i : Invariant w) where
           (record { name = padded nameMax name; pid = pid; epoch = epoch; position = other; sequence = sequence; payload = payload; offset = leaderAt w other .partition .end })) nothing w))
           (keeps-leader w i other) (λ z. not-both e (produce-passed s (leaderAt w other .partition) (length (leaderAt w other .words)) name pid epoch position sequence payload z .listed))
 
-  carrying-of : (s : Coordinator) → w .phase ≡ up s → (k : Carrying) → w .carrying ≡ k → CarryingSide (catalogueOf w) (w .history) (up s) k
-  carrying-of s u k e = subst (λ (p : Phase). CarryingSide (catalogueOf w) (w .history) p k) u (subst (CarryingSide (catalogueOf w) (w .history) (w .phase)) e (i .carried))
-
   next-preserves : (x : Item) → inLists x ≡ true → Preserves w (next x w)
   next-preserves (call lent c) t =
       while-up-cases (Preserves w) w (same w i) _ (λ s u. lent-cases (Preserves w) w (same w i) lent (actionOf c s) s
@@ -68,11 +65,11 @@ module _ (w : World) (i : Invariant w) where
   next-preserves (deliver lent n) t =
       while-up-cases (Preserves w) w (same w i) _
       (λ s u. deliverable-cases (Preserves w) w (same w i) n _
-      (λ o e. leader-cases (Preserves w) w (same w i) lent (o .position) _ _ _ (λ l. delivers-own w i s u o (carrying-of s u (toDeliver n o) e) n)
+      (λ o e. leader-cases (Preserves w) w (same w i) lent (o .position) _ _ _ (λ l. delivers-own w i s u o (carrying-of w i s u (toDeliver n o) e) n)
       (λ m d. delivers-elsewhere w i (o .position) m d (o .place) (o .pid) (o .epoch) (o .verdict) (o .coordinator) n o)))
   next-preserves (acknowledge own n) t =
       while-up-cases (Preserves w) w (same w i) _
-      (λ s u. acknowledgeable-cases (Preserves w) w (same w i) n _ (λ o e. let (way, none-open) = carrying-of s u (toAcknowledge n o) e in acknowledges-own w i s u o way none-open))
+      (λ s u. acknowledgeable-cases (Preserves w) w (same w i) n _ (λ o e. let (way, none-open) = carrying-of w i s u (toAcknowledge n o) e in acknowledges-own w i s u o way none-open))
   next-preserves (acknowledge (another slice) n) t =
       while-up-cases (Preserves w) w (same w i) _
       (λ s u. acknowledgeable-cases (Preserves w) w (same w i) n _

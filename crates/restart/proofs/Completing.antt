@@ -39,7 +39,7 @@ use Rattle.coordinator.proofs.OrderCases.{ordered-is, order-given, order-lowest
 use Rattle.partition.specs.Partition.{Action as PartitionAction, keep as keepPartition, note, write}
 use Rattle.partition.specs.Marker.{marker}
 use Rattle.runs.specs.History.{Order, orderGiven, orderCarried, markerWritten, History, Logged, collect, carriedIn, recordsOf, flushedOf, latestOf, nextOf, flushedPrepares, isCompleted}
-use Rattle.runs.specs.World.{Leader, Phase, up, Carrying, nothing, toDeliver, toAcknowledge, World, catalogueOf, leaderAt, start, own, Item, callOrder, deliver, acknowledge, withEvent, coordinatorDoes, orderAnswered, deliverable, acknowledgeable, markerCalled, ackCalled, historyAfter, historyWritten, next, step, run}
+use Rattle.runs.specs.World.{Leader, up, Carrying, nothing, toDeliver, toAcknowledge, World, catalogueOf, leaderAt, start, own, Item, callOrder, deliver, acknowledge, withEvent, coordinatorDoes, orderAnswered, deliverable, acknowledgeable, markerCalled, ackCalled, historyAfter, historyWritten, next, step, run}
 use Rattle.runs.specs.Completing.{carryOne, carryEach, rowLeft, ordersLeft, Completing}
 use Rattle.runs.specs.Demand3.{Completes, CarryingAccepted}
 use Rattle.runs.proofs.Run.{run-append}
@@ -48,10 +48,9 @@ use Rattle.runs.proofs.Admitted.{step-own}
 use Rattle.protocol.specs.HistoryInvariant.{HistoryInvariant}
 use Rattle.protocol.proofs.AfterPrepare.{After, latest, completed as isOver, after-prepare}
 use Rattle.protocol.proofs.Extends.{FlushedIn, flushed-stays, each-flushed-prepare, extends-keeps}
-use Rattle.agreement.proofs.Invariant.{UnderWay, CarryingSide, Invariant}
-use Rattle.agreement.proofs.FlushedFirst.{proper}
-use Rattle.agreement.proofs.LiveTable.{live-ready, live-latest, live-record-at, live-holds}
-use Rattle.agreement.proofs.Preserves.{log-of, acks-of}
+use Rattle.agreement.proofs.Invariant.{UnderWay, Invariant}
+use Rattle.agreement.proofs.LiveTable.{live-record-at}
+use Rattle.agreement.proofs.Preserves.{log-of, acks-of, place-inside, row-of, carrying-of, rows-of}
 use Rattle.agreement.proofs.PreparedRow.{some-outstanding, row-flushed, row-prepares, all-due}
 use Rattle.agreement.proofs.Orders.{prepare-held, orderOf}
 use Rattle.agreement.proofs.Delivers.{place-below}
@@ -64,9 +63,6 @@ use Rattle.restart.proofs.HoldsAt.{carrying-accepted}
 module _ (w : World) (i : Invariant w) (s : Coordinator) (u : w .phase ≡ up s) where
   abbrev all : ℕ
   all = catalogueOf w .all
-
-  rows-all : length (s .table .rows) ≡ places
-  rows-all = proper s (live-ready (catalogueOf w) (w .log) s (w .history) (log-of w i s u) (i .of-history)) .all
 
   -- what is outstanding at a prepare's place is in the catalogue
   within : (k : ℕ) → isPrepare (rowAt (s .table) k .status) ≡ true → due (rowAt (s .table) k) all ≡ outstanding (rowAt (s .table) k)
@@ -97,7 +93,7 @@ module _ (w : World) (i : Invariant w) (s : Coordinator) (u : w .phase ≡ up s)
       let high = ltb-false (orderPlace s all) places e in
       absurd (n (sum-nothing (rowLeft (s .flushed)) freeRow (s .table .rows) (λ k b.
       either (eqb (rowLeft (s .flushed) (rowAt (s .table) k)) 0) (λ q. eqb-true _ 0 q)
-      (λ q. absurd (not-both (order-lowest s all k (omega (arith, rows-all))) (left-ordered k (eqb-false _ 0 q))))))))
+      (λ q. absurd (not-both (order-lowest s all k (omega (arith, rows-of w i s u))) (left-ordered k (eqb-false _ 0 q))))))))
 
 -- ---- what is left after an Ack
 
@@ -109,7 +105,7 @@ module _ (w : World) (i : Invariant w) (s : Coordinator) (u : w .phase ≡ up s)
   passed = ack-passed s (length (w .log)) (o .place) (o .pid) (o .epoch) (o .position) (ack-passes w i s u o way)
 
   inside : o .place < length (s .table .rows)
-  inside = let b = place-below w i s u o way in omega (arith, rows-all w i s u)
+  inside = let b = place-below w i s u o way in omega (arith, rows-of w i s u)
 
   here : rowLeft (s .flushed) row ≡ count (outstanding row)
   here = rw (passed .prepares, passed .flushed) refl
@@ -185,7 +181,7 @@ acked w i s u n o e =
     action = actionOf (ackCall (o .place) (o .pid) (o .epoch) (o .position)) s (length (w .log))
 
     way : UnderWay (catalogueOf w) (w .history) s o
-    way = subst (λ (p : Phase). CarryingSide (catalogueOf w) (w .history) p (toAcknowledge n o)) u (subst (CarryingSide (catalogueOf w) (w .history) (w .phase)) e (i .carried)) .0
+    way = carrying-of w i s u (toAcknowledge n o) e .0
 
     f : Order → World
     f q = ackCalled own q s w
@@ -293,12 +289,11 @@ latest-left : (v : World) → Invariant v → (s : Coordinator) → v .phase ≡
 latest-left v j s u p stands is-flushed prepares e none-left =
     let c = catalogueOf v in
     let h = v .history in
-    let l = log-of v j s u in
     let k = placeOf (s .table) (p .content .name) in
-    let row-is = live-latest c (v .log) s h l (j .of-history) (p .content .name) p e in
+    let row-is = row-of v j s u (p .content .name) p e in
     let left : rowLeft (s .flushed) (rowAt (s .table) k) ≡ count (outstanding (rowAt (s .table) k)) = rw (row-prepares v j s u k p stands prepares row-is, row-flushed v j s u k p stands prepares row-is is-flushed) refl in
-    let inside : k < places = ltb-true k places (live-holds c (v .log) s h l (j .of-history) (p .content .name) p e) in
-    let most = sum-part (rowLeft (s .flushed)) freeRow (s .table .rows) k (omega (arith, rows-all v j s u)) in
+    let inside : k < places = place-inside v j s u (p .content .name) p e in
+    let most = sum-part (rowLeft (s .flushed)) freeRow (s .table .rows) k (omega (arith, rows-of v j s u)) in
     some-outstanding v j s u k p stands prepares row-is (omega arith)
 
 all-completed : (w : World) → Invariant w → (v : World) → Reached w v → (s : Coordinator) → v .phase ≡ up s → ordersLeft s ≡ 0 → Each (λ (p : Logged). isCompleted (v .history) p ≡ true) (flushedPrepares (w .history))

@@ -37,12 +37,11 @@ use Rattle.protocol.proofs.TableOfRecords.{come-record}
 use Rattle.protocol.proofs.AfterPrepare.{latest-last}
 use Rattle.protocol.proofs.Extends.{FlushedIn, flushed-stays, each-flushed-prepare, kept-stands, kept-next, extends-keeps}
 use Rattle.agreement.proofs.Invariant.{Invariant}
-use Rattle.agreement.proofs.LiveTable.{live-latest}
-use Rattle.agreement.proofs.Preserves.{log-of}
+use Rattle.agreement.proofs.Preserves.{row-of}
 use Rattle.agreement.proofs.PreparedRow.{row-joined, row-small, some-outstanding}
 use Rattle.agreement.proofs.Steps.{step-preserves, Reached, run-reached, always}
 use Rattle.restart.proofs.HoldsAt.{holds-at, pending-latest}
-use Rattle.restart.proofs.TotalOrders.{leftOf, TotalOrders, over, waits}
+use Rattle.restart.proofs.TotalOrders.{leftOf, TotalOrders, finished, unfinished}
 use Rattle.restart.proofs.TotalOrdersKept.{step-counts}
 
 -- ---- kept
@@ -89,7 +88,7 @@ module _ (w : World) (i : Invariant w) (p : Logged) (there : In p (recordsOf (w 
   is-flushed = record { stands = there; flushed = leb-true (p .end) (flushedOf h) (and-right (isPrepare (p .content .status)) (isFlushed h p) (and-left (isFlushedPrepare h p) (not (isCompleted h p)) pending)) }
 
   total : TotalOrders p (carriedFor p h + leftOf p (w .phase)) (run items w .phase) v
-  total = run-counts (catalogueOf w .all) p prepares (carriedFor p h + leftOf p (w .phase)) items w refl i is-flushed (waits (pending-latest w i p there pending) refl) undisturbed
+  total = run-counts (catalogueOf w .all) p prepares (carriedFor p h + leftOf p (w .phase)) items w refl i is-flushed (unfinished (pending-latest w i p there pending) refl) undisturbed
 
   after : Reached w (run items w)
   after = run-reached items w i
@@ -110,7 +109,7 @@ module _ (w : World) (i : Invariant w) (p : Logged) (there : In p (recordsOf (w 
       go (up s) u =
           let z = run items w in
           let j = after .invariant in
-          let row-is = live-latest (catalogueOf z) (z .log) s (z .history) (log-of z j s u) (j .of-history) (p .content .name) p e in
+          let row-is = row-of z j s u (p .content .name) p e in
           let n = some-outstanding z j s u (placeOf (s .table) (p .content .name)) p (find-in _ (recordsOf v) p e) prepares row-is in
           omega arith
       go (down m before) u = let n : count (p .content .joined) ≡ 0 → ⊥ = λ q. let z = count-zero 64 (p .content .joined) small q in omega (arith, joins-some) in omega arith
@@ -122,7 +121,7 @@ module _ (w : World) (i : Invariant w) (p : Logged) (there : In p (recordsOf (w 
       go : (y : Phase) → w .phase ≡ y → leftOf p y ≤ listed p
       go (up s) u =
           let k = placeOf (s .table) (p .content .name) in
-          let row-is = live-latest (catalogueOf w) (w .log) s h (log-of w i s u) (i .of-history) (p .content .name) p (pending-latest w i p there pending) in
+          let row-is = row-of w i s u (p .content .name) p (pending-latest w i p there pending) in
           let b = count-part 64 (rowAt (s .table) k .joined) ((2 ^ 64 - 1) - rowAt (s .table) k .acknowledged) (row-small w i s u k p there prepares row-is) in
           omega (arith, ap count (row-joined w i s u k p there prepares row-is))
       go (down m before) u = omega arith
@@ -142,15 +141,15 @@ module _ (w : World) (i : Invariant w) (p : Logged) (there : In p (recordsOf (w 
   exactly = go total
     where
       go : TotalOrders p (carriedFor p h + leftOf p (w .phase)) (run items w .phase) v → Exactly
-      go (over e f) = record { when-completed = λ q. f; until-then = λ q. not-both q e }
-      go (waits e f) = record { when-completed = λ q. absurd (latest-open e q); until-then = λ q. let b = some-left e in omega arith }
+      go (finished e f) = record { when-completed = λ q. f; until-then = λ q. not-both q e }
+      go (unfinished e f) = record { when-completed = λ q. absurd (latest-open e q); until-then = λ q. let b = some-left e in omega arith }
 
   in-time : carriedFor p h + listed p ≤ carriedFor p v → isCompleted v p ≡ true
   in-time b = go total
     where
       go : TotalOrders p (carriedFor p h + leftOf p (w .phase)) (run items w .phase) v → isCompleted v p ≡ true
-      go (over e f) = e
-      go (waits e f) = absurd (let a = some-left e in let m = left-most in omega arith)
+      go (finished e f) = e
+      go (unfinished e f) = absurd (let a = some-left e in let m = left-most in omega arith)
 
 completes-in-time : (w : World) → Invariant w → (items : List Item) → CompletesInTime w items
 completes-in-time w i items undisturbed =

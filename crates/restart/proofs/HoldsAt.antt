@@ -6,7 +6,7 @@ use mathlib.Core.List.{[], _∷_}
 use mathlib.Core.Option.{some}
 use native.Mathlib.Omega.{arith}
 use lib.ListN.{length, take}
-use borrow.Author.Tests.{le-leb, ltb-true, leb-true, eq-eqb, not-true}
+use borrow.Author.Tests.{le-leb, leb-true, eq-eqb, not-true}
 use Rattle.numbers.proofs.Tests.{not-both, and-left, and-right, and-both}
 use Rattle.bits.specs.Bits.{subset}
 use Rattle.catalogue.specs.declared.Catalogue.{Catalogue}
@@ -45,10 +45,9 @@ use Rattle.protocol.proofs.AfterPrepare.{After, latest, completed, after-prepar
 use Rattle.protocol.proofs.MarkerOver.{under-over}
 use Rattle.protocol.proofs.UnderVerdict.{under-verdict}
 use Rattle.agreement.proofs.Invariant.{LogSide, UnderWay, CarryingSide, Invariant}
-use Rattle.agreement.proofs.LiveTable.{live-latest, live-holds}
 use Rattle.agreement.proofs.LogSteps.{up-agrees, up-lengths, down-agrees, down-restarts}
 use Rattle.agreement.proofs.Words.{MarkersFit, under-words}
-use Rattle.agreement.proofs.Preserves.{log-of}
+use Rattle.agreement.proofs.Preserves.{place-inside, row-of}
 use Rattle.agreement.proofs.PreparedRow.{row-ordered}
 use Rattle.agreement.proofs.Produces.{words-length}
 use Rattle.agreement.proofs.Delivers.{marker-passes}
@@ -160,10 +159,10 @@ orders-given-up w i s u =
         let flushed-prepare = and-left (isFlushedPrepare h p) (not (isCompleted h p)) e in
         let prepare = and-left (isPrepare (p .content .status)) (isFlushed h p) flushed-prepare in
         let flushed = leb-true (p .end) (flushedOf h) (and-right (isPrepare (p .content .status)) (isFlushed h p) flushed-prepare) in
-        let row-is = live-latest c (w .log) s h (log-of w i s u) (i .of-history) (p .content .name) p is in
+        let row-is = row-of w i s u (p .content .name) p is in
         let test = row-ordered w i s u k p j prepare row-is flushed set more in
         let low : k < orderPlace s set → ⊥ = λ b. not-both (order-lowest s set k b) test in
-        let inside : k < places = ltb-true k places (live-holds c (w .log) s h (log-of w i s u) (i .of-history) (p .content .name) p is) in
+        let inside : k < places = place-inside w i s u (p .content .name) p is in
         rw (order-given s set (omega arith)) (le-leb (orderPlace s set) k (omega arith))
 
 orders-given : (w : World) → Invariant w → OrdersGiven (w .phase) w

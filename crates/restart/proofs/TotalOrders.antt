@@ -43,13 +43,13 @@ leftOf p (down n before) = listed p
 
 -- a prepare is completed and has had n orders carried, or it is its name's latest record and these and what is left are n
 pub data TotalOrders (p : Logged) (n : ℕ) (phase : Phase) (h : History) : Type 0 where
-  over : isCompleted h p ≡ true → carriedFor p h ≡ n → TotalOrders p n phase h
-  waits : latestOf (p .content .name) h ≡ some p → carriedFor p h + leftOf p phase ≡ n → TotalOrders p n phase h
+  finished : isCompleted h p ≡ true → carriedFor p h ≡ n → TotalOrders p n phase h
+  unfinished : latestOf (p .content .name) h ≡ some p → carriedFor p h + leftOf p phase ≡ n → TotalOrders p n phase h
 
 -- nothing of it changes
 pub total-same : (p : Logged) (n : ℕ) (a b : Phase) (h v : History) → recordsOf v ≡ recordsOf h → collect carriedIn v ≡ collect carriedIn h → leftOf p b ≡ leftOf p a → TotalOrders p n a h → TotalOrders p n b v
-total-same p n a b h v r k l (over e f) = over (rw r e) (rw k f)
-total-same p n a b h v r k l (waits e f) = waits (rw r e) (rw (k, l) f)
+total-same p n a b h v r k l (finished e f) = finished (rw r e) (rw k f)
+total-same p n a b h v r k l (unfinished e f) = unfinished (rw r e) (rw (k, l) f)
 
 -- ---- a record is appended
 
@@ -68,13 +68,13 @@ completed-more p x h v r e =
 -- of another name
 pub total-other : (p x : Logged) (n : ℕ) (a b : Phase) (h v : History) → recordsOf v ≡ x ∷ recordsOf h → (x .content .name ≡ p .content .name → ⊥) → collect carriedIn v ≡ collect carriedIn h → leftOf p b ≡ leftOf p a
     → TotalOrders p n a h → TotalOrders p n b v
-total-other p x n a b h v r d k l (over e f) = over (completed-more p x h v r e) (rw k f)
-total-other p x n a b h v r d k l (waits e f) =
-    waits (ap (latestIn (p .content .name)) r ∙ find-miss (isOf (p .content .name)) x (recordsOf h) (same-false (x .content .name) (p .content .name) d) ∙ e) (rw (k, l) f)
+total-other p x n a b h v r d k l (finished e f) = finished (completed-more p x h v r e) (rw k f)
+total-other p x n a b h v r d k l (unfinished e f) =
+    unfinished (ap (latestIn (p .content .name)) r ∙ find-miss (isOf (p .content .name)) x (recordsOf h) (same-false (x .content .name) (p .content .name) d) ∙ e) (rw (k, l) f)
 
 -- whatever its name, what is over stays
 pub total-over : (p x : Logged) (n : ℕ) (b : Phase) (h v : History) → recordsOf v ≡ x ∷ recordsOf h → collect carriedIn v ≡ collect carriedIn h → isCompleted h p ≡ true → carriedFor p h ≡ n → TotalOrders p n b v
-total-over p x n b h v r k e f = over (completed-more p x h v r e) (rw k f)
+total-over p x n b h v r k e f = finished (completed-more p x h v r e) (rw k f)
 
 -- the complete record itself
 pub completed-now : (c : Catalogue) (p x : Logged) (h v : History) → recordsOf v ≡ x ∷ recordsOf h → HistoryInvariant c h → latestOf (p .content .name) h ≡ some p → isPrepare (p .content .status) ≡ true

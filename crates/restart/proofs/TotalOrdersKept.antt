@@ -56,15 +56,15 @@ use Rattle.protocol.proofs.Cuts.{numbered-same, numbered-below}
 use Rattle.protocol.proofs.TableOfRecords.{come-record}
 use Rattle.protocol.proofs.Events.{collect-same, marker-records, entry-records, given-records, opened-records, carried-records, flush-records, appended-records, newRecord}
 use Rattle.protocol.proofs.Consequences.{for-latest}
-use Rattle.agreement.proofs.Invariant.{UpLog, LogSide, placeIn, UnderWay, CarryingSide, Invariant}
-use Rattle.agreement.proofs.FlushedFirst.{FlushedFirst, call-flushed-first, proper}
-use Rattle.agreement.proofs.LiveTable.{live-ready, live-place, live-latest}
+use Rattle.agreement.proofs.Invariant.{UpLog, LogSide, placeIn, UnderWay, Invariant}
+use Rattle.agreement.proofs.FlushedFirst.{FlushedFirst, call-flushed-first}
+use Rattle.agreement.proofs.LiveTable.{live-latest}
 use Rattle.agreement.proofs.Tables.{place-name}
-use Rattle.agreement.proofs.Preserves.{log-of, acks-of}
-use Rattle.agreement.proofs.Delivers.{place-below}
-use Rattle.agreement.proofs.Acknowledges.{it, row-is, ack-passes, row-joins, joined-small, position-below}
+use Rattle.agreement.proofs.Preserves.{log-of, acks-of, carrying-of, place-of, ready-of, row-of, rows-of}
+use Rattle.agreement.proofs.Delivers.{place-below, prepare-of}
+use Rattle.agreement.proofs.Acknowledges.{row-is, ack-passes, row-joins, joined-small, position-below}
 use Rattle.agreement.proofs.Restarts.{opening-valid, takesLog, call-refused, not-admitted}
-use Rattle.restart.proofs.TotalOrders.{leftOf, TotalOrders, over, waits, total-same, total-other, total-over, completed-now, left-appended, place-acknowledged, carried-more}
+use Rattle.restart.proofs.TotalOrders.{leftOf, TotalOrders, finished, unfinished, total-same, total-other, total-over, completed-now, left-appended, place-acknowledged, carried-more}
 
 module _ (p : Logged) (prepares : isPrepare (p .content .status) ≡ true) (n : ℕ) (w : World) (i : Invariant w) (stands : In p (recordsOf (w .history))) (t : TotalOrders p n (w .phase) (w .history)) where
   abbrev c : Catalogue
@@ -101,28 +101,28 @@ module _ (p : Logged) (prepares : isPrepare (p .content .status) ≡ true) (n : 
         inside : place < length (s .table .rows)
         inside =
             let at : placeFor (unacknowledged (s .table)) (row .name) ≡ place = plain-place-for (s .table) (row .name) ∙ l .place-is in
-            omega (arith, come-place (unacknowledged (s .table)) (recordOf row) (l .comes), proper s (live-ready c (w .log) s h (log-of w i s u) (i .of-history)) .all)
+            omega (arith, come-place (unacknowledged (s .table)) (recordOf row) (l .comes), rows-of w i s u)
 
         go : TotalOrders p n (up s) h → TotalOrders p n (up (appended s place row)) (recordAppended (recordOf row) end ∷ h)
-        go (over e f) = total-over p new n (up (appended s place row)) h (recordAppended (recordOf row) end ∷ h) (appended-records h (recordOf row) end .records) carried e f
-        go (waits e f) =
+        go (finished e f) = total-over p new n (up (appended s place row)) h (recordAppended (recordOf row) end ∷ h) (appended-records h (recordOf row) end .records) carried e f
+        go (unfinished e f) =
             let d : row .name ≡ p .content .name → ⊥ = λ z.
             let is : isPrepare (rowAt (s .table) (placeOf (s .table) (row .name)) .status) ≡ true = ap (λ (m : List ℕ). isPrepare (rowAt (s .table) (placeOf (s .table) m) .status)) z
-            ∙ ap (λ (r : Row). isPrepare (r .status)) (live-latest c (w .log) s h (log-of w i s u) (i .of-history) (p .content .name) p e) ∙ prepares in
+            ∙ ap (λ (r : Row). isPrepare (r .status)) (row-of w i s u (p .content .name) p e) ∙ prepares in
             not-both (k .unprepared) is in
             total-other p new n (up s) (up (appended s place row)) h (recordAppended (recordOf row) end ∷ h) (appended-records h (recordOf row) end .records) d carried
-            (left-appended c (w .log) _ s h place row (log-of w i s u) (i .of-history) (recordAppended (recordOf row) end ∷ h) x y new (appended-records h (recordOf row) end .records) inside p e d d) (waits e f)
+            (left-appended c (w .log) _ s h place row (log-of w i s u) (i .of-history) (recordAppended (recordOf row) end ∷ h) x y new (appended-records h (recordOf row) end .records) inside p e d d) (unfinished e f)
     acted (acknowledgeAt place position) l k x y = absurd k
     acted (flushTo m) l k x y = total-same p n (up s) (up (after (flushTo m) s)) h (logFlushed m ∷ h) (flush-records h m) (collect-same carriedIn (logFlushed m) h refl) refl now
 
     acts : (a : Action) → Decided s (length (w .log)) a → FlushedFirst s a → Counts (coordinatorDoes a s w)
-    acts a d k j = acted a (decided-lawful s (live-ready c (w .log) s h (log-of w i s u) (i .of-history)) (length (w .log)) a d) k (j .log-side) (j .of-history)
+    acts a d k j = acted a (decided-lawful s (ready-of w i s u) (length (w .log)) a d) k (j .log-side) (j .of-history)
 
     -- ---- Ack
 
     module _ (o : Order) (way : UnderWay c h s o) where
       abbrev r : Logged
-      r = it w i s u o way .prepare
+      r = prepare-of w i s u o way .prepare
 
       abbrev row : Row
       row = rowAt (s .table) (o .place)
@@ -131,17 +131,13 @@ module _ (p : Logged) (prepares : isPrepare (p .content .status) ≡ true) (n : 
       v = orderCarried o ∷ h
 
       number-is : r .number ≡ o .for
-      number-is = eqb-true (r .number) (o .for) (find-passes (λ (y : Logged). eqb (y .number) (o .for)) (recordsOf h) r (it w i s u o way .found))
+      number-is = eqb-true (r .number) (o .for) (find-passes (λ (y : Logged). eqb (y .number) (o .for)) (recordsOf h) r (prepare-of w i s u o way .found))
 
       same-prepare : o .for ≡ p .number → r ≡ p
-      same-prepare e = numbered-same (length h) (recordsOf h) (i .of-history .numbered) r p (it w i s u o way .there) stands (number-is ∙ e)
+      same-prepare e = numbered-same (length h) (recordsOf h) (i .of-history .numbered) r p (prepare-of w i s u o way .there) stands (number-is ∙ e)
 
       records : recordsOf v ≡ recordsOf h
       records = carried-records h o .records
-
-      -- where the prepare's row is
-      place-is : (name : List ℕ) → placeOf (s .table) name ≡ placeIn c (recordsOf h) name
-      place-is name = live-place c (w .log) s h (log-of w i s u) (i .of-history) name
 
       carried-here : o .for ≡ p .number → carriedFor p v ≡ 1 + carriedFor p h
       carried-here e = carried-more p o h ∙ rw (eq-eqb (o .for) (p .number) e) refl
@@ -151,28 +147,28 @@ module _ (p : Logged) (prepares : isPrepare (p .content .status) ≡ true) (n : 
 
       not-over : isCompleted h p ≡ true → o .for ≡ p .number → ⊥
       not-over e q =
-          let z : nextOf p h ≡ none = subst (λ (y : Logged). nextOf y h ≡ none) (same-prepare q) (it w i s u o way .is-for .latest) in
+          let z : nextOf p h ≡ none = subst (λ (y : Logged). nextOf y h ≡ none) (same-prepare q) (prepare-of w i s u o way .is-for .latest) in
           let f : found (λ (y : Logged). eqb (statusCode (y .content .status)) (statusCode (p .content .status) + 2)) (nextOf p h) ≡ true = and-right (isPrepare (p .content .status)) _ e in
           true≢false (sym (rw z at f))
 
       -- the total, with an order for another prepare
       counted : (o .for ≡ p .number → ⊥) → TotalOrders p n (up s) h → TotalOrders p n (up s) v
-      counted d (over e f) = over (rw records e) (same-count d ∙ f)
-      counted d (waits e f) = waits (rw records e) (ap (λ (m : ℕ). m + leftOf p (up s)) (same-count d) ∙ f)
+      counted d (finished e f) = finished (rw records e) (same-count d ∙ f)
+      counted d (unfinished e f) = unfinished (rw records e) (ap (λ (m : ℕ). m + leftOf p (up s)) (same-count d) ∙ f)
 
       other-name : (o .for ≡ p .number → ⊥) → latestOf (p .content .name) h ≡ some p → r .content .name ≡ p .content .name → ⊥
       other-name d e q =
-          let z : latestOf (r .content .name) h ≡ some r = for-latest c h (i .of-history) o r (it w i s u o way .there) (it w i s u o way .is-for) in
+          let z : latestOf (r .content .name) h ≡ some r = for-latest c h (i .of-history) o r (prepare-of w i s u o way .there) (prepare-of w i s u o way .is-for) in
           d (sym number-is ∙ ap (λ (y : Logged). y .number) (some-same (sym z ∙ ap (λ (m : List ℕ). latestOf m h) q ∙ e)))
 
       row-name : row .name ≡ r .content .name
       row-name = ap (λ (y : Row). y .name) (row-is w i s u o way)
 
       own-left : o .for ≡ p .number → leftOf p (up s) ≡ count (outstanding row)
-      own-left e = ap (λ (k : ℕ). count (outstanding (rowAt (s .table) k))) (place-is (p .content .name) ∙ ap (λ (y : Logged). placeIn c (recordsOf h) (y .content .name)) (sym (same-prepare e)) ∙ it w i s u o way .place)
+      own-left e = ap (λ (k : ℕ). count (outstanding (rowAt (s .table) k))) (place-of w i s u (p .content .name) ∙ ap (λ (y : Logged). placeIn c (recordsOf h) (y .content .name)) (sym (same-prepare e)) ∙ prepare-of w i s u o way .place)
 
       inside : o .place < length (s .table .rows)
-      inside = let b = place-below w i s u o way in omega (arith, proper s (live-ready c (w .log) s h (log-of w i s u) (i .of-history)) .all)
+      inside = let b = place-below w i s u o way in omega (arith, rows-of w i s u)
 
       -- the last one completes its prepare
       completes : lastOutstanding row ≡ true → Counts (coordinatorDoes (append (o .place) (completed row (s .clock))) s (withEvent w (orderCarried o)))
@@ -197,9 +193,9 @@ module _ (p : Logged) (prepares : isPrepare (p .content .status) ≡ true) (n : 
           all = to-v ∙ ap (λ (l : List Logged). new ∷ l) records
 
           go : TotalOrders p n (up s) h → Dec (o .for ≡ p .number) → TotalOrders p n (up (appended s (o .place) done)) (recordAppended (recordOf done) end ∷ v)
-          go (over e f) q = let d = not-over e in total-over p new n (up (appended s (o .place) done)) v (recordAppended (recordOf done) end ∷ v) to-v carried (rw records e) (same-count d ∙ f)
-          go (waits e f) (yes q) =
-              over (completed-now c p new h (recordAppended (recordOf done) end ∷ v) all (i .of-history) e prepares (let b = below in omega arith) (row-name ∙ ap (λ (y : Logged). y .content .name) (same-prepare q))
+          go (finished e f) q = let d = not-over e in total-over p new n (up (appended s (o .place) done)) v (recordAppended (recordOf done) end ∷ v) to-v carried (rw records e) (same-count d ∙ f)
+          go (unfinished e f) (yes q) =
+              finished (completed-now c p new h (recordAppended (recordOf done) end ∷ v) all (i .of-history) e prepares (let b = below in omega arith) (row-name ∙ ap (λ (y : Logged). y .content .name) (same-prepare q))
               (complete-code (row .status) row-prepares ∙ ap (λ (m : ℕ). m + 2) (ap (λ (y : Row). statusCode (y .status)) (row-is w i s u o way) ∙ ap (λ (y : Logged). statusCode (y .content .status)) (same-prepare q))))
               (let a : carriedFor p (recordAppended (recordOf done) end ∷ v) ≡ carriedFor p v = rw carried refl in let b = carried-here q in let d = own-left q in let m = eqb-true
               (count (outstanding row)) 1 last in omega arith)
@@ -208,12 +204,12 @@ module _ (p : Logged) (prepares : isPrepare (p .content .status) ≡ true) (n : 
               below = each-in (λ (y : Logged). y .number < length h) (recordsOf h) p (numbered-below (length h) (recordsOf h) (i .of-history .numbered)) stands
 
               row-prepares : isPrepare (row .status) ≡ true
-              row-prepares = ap (λ (y : Row). isPrepare (y .status)) (row-is w i s u o way) ∙ it w i s u o way .is-for .prepare
-          go (waits e f) (no d) =
+              row-prepares = ap (λ (y : Row). isPrepare (y .status)) (row-is w i s u o way) ∙ prepare-of w i s u o way .is-for .prepare
+          go (unfinished e f) (no d) =
               let d′ = other-name d e in
               let d″ : row .name ≡ p .content .name → ⊥ = λ z. d′ (sym row-name ∙ z) in
               total-other p new n (up s) (up (appended s (o .place) done)) v (recordAppended (recordOf done) end ∷ v) to-v d″ carried
-              (left-appended c (w .log) _ s h (o .place) done (log-of w i s u) (i .of-history) (recordAppended (recordOf done) end ∷ v) (j .log-side) (j .of-history) new all inside p e d″ d″) (counted d (waits e f))
+              (left-appended c (w .log) _ s h (o .place) done (log-of w i s u) (i .of-history) (recordAppended (recordOf done) end ∷ v) (j .log-side) (j .of-history) new all inside p e d″ d″) (counted d (unfinished e f))
 
       -- another one is noted
       notes : lastOutstanding row ≡ false → Counts (coordinatorDoes (acknowledgeAt (o .place) (o .position)) s (withEvent w (orderCarried o)))
@@ -223,22 +219,22 @@ module _ (p : Logged) (prepares : isPrepare (p .content .status) ≡ true) (n : 
           noted = acknowledged s (o .place) (o .position)
 
           go : TotalOrders p n (up s) h → Dec (o .for ≡ p .number) → TotalOrders p n (up noted) v
-          go (over e f) q = over (rw records e) (same-count (not-over e) ∙ f)
-          go (waits e f) (yes q) =
-              let at : placeOf (noted .table) (p .content .name) ≡ o .place = place-acknowledged s (o .place) (o .position) (p .content .name) ∙ place-is (p .content .name)
-              ∙ ap (λ (y : Logged). placeIn c (recordsOf h) (y .content .name)) (sym (same-prepare q)) ∙ it w i s u o way .place in
+          go (finished e f) q = finished (rw records e) (same-count (not-over e) ∙ f)
+          go (unfinished e f) (yes q) =
+              let at : placeOf (noted .table) (p .content .name) ≡ o .place = place-acknowledged s (o .place) (o .position) (p .content .name) ∙ place-of w i s u (p .content .name)
+              ∙ ap (λ (y : Logged). placeIn c (recordsOf h) (y .content .name)) (sym (same-prepare q)) ∙ prepare-of w i s u o way .place in
               let left : leftOf p (up noted) ≡ count (difference (row .joined) (insert (row .acknowledged) (o .position))) = ap (λ (k : ℕ). count (outstanding (rowAt (noted .table) k))) at
               ∙ ap (λ (y : Row). count (outstanding y)) (acknowledged-row s (o .place) (o .position) inside) in
               let one = count-left 64 (row .joined) (row .acknowledged) (o .position) (joined-small w i s u o way) (acks-of w i s u .small (o .place)) (position-below w i s u o way)
               (member-true (row .joined) (o .position) (row-joins w i s u o way)) (member-false (row .acknowledged) (o .position) (way .waits)) in
-              waits (rw records e) (let a = carried-here q in let b = own-left q in omega arith)
-          go (waits e f) (no d) =
+              unfinished (rw records e) (let a = carried-here q in let b = own-left q in omega arith)
+          go (unfinished e f) (no d) =
               let other : placeOf (s .table) (p .content .name) ≡ o .place → ⊥ = λ z. other-name d e
               (sym (place-name c (recordsOf h) (i .of-history .come) (i .of-history .ends) (p .content .name) (r .content .name) p r e
-              (for-latest c h (i .of-history) o r (it w i s u o way .there) (it w i s u o way .is-for)) (sym (place-is (p .content .name)) ∙ z ∙ sym (it w i s u o way .place)))) in
+              (for-latest c h (i .of-history) o r (prepare-of w i s u o way .there) (prepare-of w i s u o way .is-for)) (sym (place-of w i s u (p .content .name)) ∙ z ∙ sym (prepare-of w i s u o way .place)))) in
               let left : leftOf p (up noted) ≡ leftOf p (up s) = ap (λ (k : ℕ). count (outstanding (rowAt (noted .table) k))) (place-acknowledged s (o .place) (o .position) (p .content .name))
               ∙ ap (λ (y : Row). count (outstanding y)) (row-there (placeOf (s .table) (p .content .name)) other) in
-              waits (rw records e) (ap (λ (m : ℕ). carriedFor p v + m) left ∙ ap (λ (m : ℕ). m + leftOf p (up s)) (same-count d) ∙ f)
+              unfinished (rw records e) (ap (λ (m : ℕ). carriedFor p v + m) left ∙ ap (λ (m : ℕ). m + leftOf p (up s)) (same-count d) ∙ f)
             where
               row-there : (k : ℕ) → (k ≡ o .place → ⊥) → rowAt (noted .table) k ≡ rowAt (s .table) k
               row-there k m = unfold acknowledged in with-other (s .table) (o .place) _ k m
@@ -292,8 +288,8 @@ module _ (p : Logged) (prepares : isPrepare (p .content .status) ≡ true) (n : 
       invariant-up = subst (λ (y : List ℕ). HistoryInvariant (parse y .catalogue) (v .history)) g (j .of-history)
 
       go : TotalOrders p n (down m before) h → TotalOrders p n (v .phase) (v .history)
-      go (over a b) = over (rw records a) (rw carried b)
-      go (waits a b) =
+      go (finished a b) = finished (rw records a) (rw carried b)
+      go (unfinished a b) =
           let a′ : latestOf (p .content .name) (v .history) ≡ some p = rw records a in
           let k = placeOf (s .table) (p .content .name) in
           let row-is = live-latest c (v .log) s (v .history) log-up invariant-up (p .content .name) p a′ in
@@ -302,18 +298,15 @@ module _ (p : Logged) (prepares : isPrepare (p .content .status) ≡ true) (n : 
           let small : p .content .joined < 2 ^ 64 = well-formed-parts c (p .content) (come-record c (recordsOf h) (i .of-history .come) p stands .0) .joined-below in
           let left : leftOf p (v .phase) ≡ listed p = ap (leftOf p) e ∙ ap count
           (ap (λ (z : ℕ). difference (rowAt (s .table) k .joined) z) none-acked ∙ ap (λ (z : ℕ). difference z 0) joined ∙ difference-none (p .content .joined) small) in
-          waits a′ (ap (λ (z : ℕ). z + leftOf p (v .phase)) (rw carried refl) ∙ ap (λ (z : ℕ). carriedFor p h + z) left ∙ b)
+          unfinished a′ (ap (λ (z : ℕ). z + leftOf p (v .phase)) (rw carried refl) ∙ ap (λ (z : ℕ). carriedFor p h + z) left ∙ b)
 
   -- ---- items
-
-  carrying-of : (s : Coordinator) → w .phase ≡ up s → (k : Carrying) → w .carrying ≡ k → CarryingSide c h (up s) k
-  carrying-of s u k e = subst (λ (y : Phase). CarryingSide c h y k) u (subst (CarryingSide c h (w .phase)) e (i .carried))
 
   next-counts : (x : Item) → inLists x ≡ true → Undisturbed (c .all) x → Counts (next x w)
   next-counts (call lent k) so d =
       while-up-cases Counts w same-world _ (λ s u. lent-cases Counts w same-world lent (actionOf k s) s
       (λ o. acts s u (actionOf k s (length (w .log))) (byCall k (and-left (callTyped k) (not (isAck k)) so) refl)
-      (call-flushed-first s (live-ready c (w .log) s h (log-of w i s u) (i .of-history)) (length (w .log)) k (not-true (isAck k) (and-right (callTyped k) (not (isAck k)) so))))
+      (call-flushed-first s (ready-of w i s u) (length (w .log)) k (not-true (isAck k) (and-right (callTyped k) (not (isAck k)) so))))
       (λ m e. elsewhere s u m e k))
     where
       refused : (s : Coordinator) (u : w .phase ≡ up s) (m : ℕ) → (m ≡ length (w .log) → ⊥) → (k : CoordinatorCall) → takesLog k ≡ true → Counts (coordinatorElsewhere (actionOf k s m) s w)
@@ -326,7 +319,7 @@ module _ (p : Logged) (prepares : isPrepare (p .content .status) ≡ true) (n : 
       elsewhere s u m e (tickCall time) = refused s u m e (tickCall time) refl
       elsewhere s u m e (flushCall length) =
           subst Counts (sym (flush-elsewhere length s w)) (acts s u (flush s length .action) (byCall (flushCall length) refl refl)
-          (call-flushed-first s (live-ready c (w .log) s h (log-of w i s u) (i .of-history)) 0 (flushCall length) refl))
+          (call-flushed-first s (ready-of w i s u) 0 (flushCall length) refl))
       elsewhere s u m e (ackCall place pid epoch position) = refused s u m e (ackCall place pid epoch position) refl
   next-counts (callOrder set) so d =
       while-up-cases Counts w same-world _
@@ -346,7 +339,7 @@ module _ (p : Logged) (prepares : isPrepare (p .content .status) ≡ true) (n : 
       led (o .position) (marker (y .partition) (length (y .words)) (o .place) (o .pid) (o .epoch) (o .verdict) (o .coordinator) .action) (markerWritten o) _ (marker-records h o .records) refl)
       (λ k f. resting _ refl refl refl)))
   next-counts (acknowledge own m) so d =
-      while-up-cases Counts w same-world _ (λ s u. acknowledgeable-cases Counts w same-world m _ (λ o e. acked s u o (carrying-of s u (toAcknowledge m o) e .0)))
+      while-up-cases Counts w same-world _ (λ s u. acknowledgeable-cases Counts w same-world m _ (λ o e. acked s u o (carrying-of w i s u (toAcknowledge m o) e .0)))
   next-counts (acknowledge (another slice) m) so d = absurd d
   next-counts (cut m) so d = absurd d
   next-counts (reopen epoch first last) so d =
