@@ -77,15 +77,16 @@ none-open-appended c h t r end w x k n =
 pub acks-kept : (c : Catalogue) (h : History) (s : Coordinator) (e : Event) → ((x k : ℕ) → member (rowAt (s .table) k .acknowledged) x ≡ true → NoneOpen c h (recordsOf h) x k → NoneOpen c (e ∷ h) (recordsOf (e ∷ h)) x k)
     → AcksAgree c h s → AcksAgree c (e ∷ h) s
 acks-kept c h s e f a =
-    record { closed = λ k x m. let (p, n) = a .closed k x m in (p, f x k m n); small = a .small; waiting = a .waiting }
+    record { prepared = a .prepared; closed = λ k x m. f x k m (a .closed k x m); small = a .small; waiting = a .waiting }
 
 -- in a state with the same rows
 pub acks-rows : (c : Catalogue) (h : History) (s u : Coordinator) → ((k : ℕ) → rowAt (u .table) k ≡ rowAt (s .table) k) → AcksAgree c h s → AcksAgree c h u
 acks-rows c h s u e a =
     record {
-      closed = λ k x m. let (p, n) = a .closed k x (sym (ap (λ (r : Row). member (r .acknowledged) x) (e k)) ∙ m) in (ap (λ (r : Row). isPrepare (r .status)) (e k) ∙ p, n);
+      prepared = λ k x. subst (λ (r : Row). member (r .acknowledged) x ≡ true → isPrepare (r .status) ≡ true) (sym (e k)) (a .prepared k x);
+      closed = λ k x. subst (λ (r : Row). member (r .acknowledged) x ≡ true → NoneOpen c h (recordsOf h) x k) (sym (e k)) (a .closed k x);
       small = λ k. rw (e k) (a .small k);
-      waiting = λ k p z. a .waiting k (sym (ap (λ (r : Row). isPrepare (r .status)) (e k)) ∙ p) (sym (ap outstanding (e k)) ∙ z);
+      waiting = λ k. subst (λ (r : Row). isPrepare (r .status) ≡ true → outstanding r ≡ 0 → ⊥) (sym (e k)) (a .waiting k);
     }
 
 -- a prepare of which nothing is acknowledged waits
@@ -102,11 +103,12 @@ fresh-waits c row f a p z =
 
 -- one row changes: what is acknowledged there is closed, and it waits if it is a prepare
 acks-changed : (c : Catalogue) (h : History) (s u : Coordinator) (place : ℕ) (row : Row) → rowAt (u .table) place ≡ row → ((k : ℕ) → k ≢ place → rowAt (u .table) k ≡ rowAt (s .table) k)
-    → ((x : ℕ) → member (row .acknowledged) x ≡ true → (isPrepare (row .status) ≡ true) × NoneOpen c h (recordsOf h) x place) → row .acknowledged < 2 ^ 64
+    → ((x : ℕ) → member (row .acknowledged) x ≡ true → isPrepare (row .status) ≡ true) → ((x : ℕ) → member (row .acknowledged) x ≡ true → NoneOpen c h (recordsOf h) x place) → row .acknowledged < 2 ^ 64
     → (isPrepare (row .status) ≡ true → outstanding row ≡ 0 → ⊥) → AcksAgree c h s → AcksAgree c h u
-acks-changed c h s u place row here others closed small waiting a =
+acks-changed c h s u place row here others prepared closed small waiting a =
     record {
-      closed = changed (λ k y. (x : ℕ) → member (y .acknowledged) x ≡ true → (isPrepare (y .status) ≡ true) × NoneOpen c h (recordsOf h) x k) closed (a .closed);
+      prepared = changed (λ k y. (x : ℕ) → member (y .acknowledged) x ≡ true → isPrepare (y .status) ≡ true) prepared (a .prepared);
+      closed = changed (λ k y. (x : ℕ) → member (y .acknowledged) x ≡ true → NoneOpen c h (recordsOf h) x k) closed (a .closed);
       small = changed (λ k y. y .acknowledged < 2 ^ 64) small (a .small);
       waiting = changed (λ k y. isPrepare (y .status) ≡ true → outstanding y ≡ 0 → ⊥) waiting (a .waiting);
     }
@@ -124,8 +126,11 @@ module _ (c : Catalogue) (h : History) (t : HistoryInvariant c h) (s : Coordinat
       let end = logEnd s + length (rowFrame s row) in
       let event = recordAppended (recordOf row) end in
       acks-changed c (event ∷ h) s (appended s place row) place (withEnd row end) (apply-same (s .table) place (withEnd row end) inside) (apply-other (s .table) place (withEnd row end))
-      (λ x m. absurd (member-nothing x (subst (λ (n : ℕ). member n x ≡ true) none-acked m))) (omega (arith, none-acked)) (fresh-waits c row formed none-acked)
+      (λ x m. absurd (none x m)) (λ x m. absurd (none x m)) (omega (arith, none-acked)) (fresh-waits c row formed none-acked)
       (acks-kept c h s event (λ x k m n. none-open-appended c h t (recordOf row) end w x k n) a)
+    where
+      none : (x : ℕ) → member (row .acknowledged) x ≡ true → ⊥
+      none x m = member-nothing x (subst (λ (n : ℕ). member n x ≡ true) none-acked m)
 
   -- after a position is acknowledged that is closed, and others wait
   pub acks-noted : (place position : ℕ) → place < length (s .table .rows) → position < 64 → isPrepare (rowAt (s .table) place .status) ≡ true → rowAt (s .table) place .joined < 2 ^ 64
@@ -133,7 +138,7 @@ module _ (c : Catalogue) (h : History) (t : HistoryInvariant c h) (s : Coordinat
       → NoneOpen c h (recordsOf h) position place → AcksAgree c h (acknowledged s place position)
   unfolding acknowledged
   acks-noted place position inside below prepares small-joined joins new more-left none-open =
-      acks-changed c h s (acknowledged s place position) place noted (with-same (s .table) place noted inside) (with-other (s .table) place noted) (λ x m. (prepares, closes x (ℕ-discrete x position) m))
+      acks-changed c h s (acknowledged s place position) place noted (with-same (s .table) place noted inside) (with-other (s .table) place noted) (λ x m. prepares) (λ x m. closes x (ℕ-discrete x position) m)
       (insert-below 64 (old .acknowledged) position (a .small place) below) (λ p z. waiting z) a
     where
       old : Row
@@ -144,7 +149,7 @@ module _ (c : Catalogue) (h : History) (t : HistoryInvariant c h) (s : Coordinat
 
       closes : (x : ℕ) → Dec (x ≡ position) → member (insert (old .acknowledged) position) x ≡ true → NoneOpen c h (recordsOf h) x place
       closes x (yes i) m = subst (λ (y : ℕ). NoneOpen c h (recordsOf h) y place) (sym i) none-open
-      closes x (no n) m = a .closed place x (member-is (old .acknowledged) x (sym (insert-other (old .acknowledged) position x n) ∙ member-true (insert (old .acknowledged) position) x m)) .1
+      closes x (no n) m = a .closed place x (member-is (old .acknowledged) x (sym (insert-other (old .acknowledged) position x n) ∙ member-true (insert (old .acknowledged) position) x m))
 
       waiting : difference (old .joined) (insert (old .acknowledged) position) ≡ 0 → ⊥
       waiting z =

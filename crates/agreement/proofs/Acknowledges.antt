@@ -133,7 +133,7 @@ module _ (w : World) (i : Invariant w) (s : Coordinator) (u : w .phase ≡ up s)
       go d j z at joins (yes e) = none-open-at c h (recordsOf h) (o .position) k0 n d j e z at
       go d j z at joins (no m) =
           let acked = last-left (row .joined) (row .acknowledged) (o .position) joined-small (acks-of w i s u .small k0) position-below row-joins (way .waits) last (d .what .position) joins m in
-          none-open-at c h (recordsOf h) (d .what .position) k0 (acks-of w i s u .closed k0 (d .what .position) acked .1) d j refl z at
+          none-open-at c h (recordsOf h) (d .what .position) k0 (acks-of w i s u .closed k0 (d .what .position) acked) d j refl z at
 
   module _ (n : NoneOpen c h (recordsOf h) (o .position) k0) where
     inside : k0 < length (s .table .rows)
@@ -146,7 +146,7 @@ module _ (w : World) (i : Invariant w) (s : Coordinator) (u : w .phase ≡ up s)
         (λ e. by-cases (MayAppend s h) (member (row .acknowledged) (o .position)) (λ m. tt)
         (λ m. by-cases (MayAppend s h) (lastOutstanding row)
         (λ l. let own = own-place s (ready-of w i s u) k0 row-held in
-        (rw own (ack-passed s (length (w .log)) k0 (o .pid) (o .epoch) (o .position) e .flushed), λ p. nothing-open n l)) (λ l. tt)))
+        record { flushed = rw own (ack-passed s (length (w .log)) k0 (o .pid) (o .epoch) (o .position) e .flushed); nothing-open = λ p. nothing-open n l }) (λ l. tt)))
 
     notes : AcknowledgesClosed c s h (ack s (length (w .log)) k0 (o .pid) (o .epoch) (o .position) .action)
     unfolding ack ackAction

@@ -53,7 +53,7 @@ use Rattle.protocol.proofs.TableOfRecords.{come-record, table-latest}
 use Rattle.protocol.proofs.Events.{marker-records, same-entries}
 use Rattle.protocol.proofs.Consequences.{for-latest}
 use Rattle.protocol.proofs.Extends.{still, more}
-use Rattle.agreement.proofs.Invariant.{NotAhead, epochOf, placeIn, NoneOpen, AcksSide, UnderWay, CarryingSide, Invariant}
+use Rattle.agreement.proofs.Invariant.{NotAhead, epochOf, placeIn, NoneOpen, AcksSide, UnderWay, CarryingSide, Invariant, ForPlace}
 use Rattle.agreement.proofs.Tables.{latest-starts, place-row}
 use Rattle.agreement.proofs.Rows.{held-busy}
 use Rattle.agreement.proofs.RowsAfterProduce.{rows-same, rows-marked-elsewhere}
@@ -93,8 +93,8 @@ module _ (w : World) (i : Invariant w) (s : Coordinator) (u : w .phase ≡ up s)
 
   pub prepare-of : PrepareOf
   prepare-of =
-      found-with (λ (q : Logged). IsFor o h q × (placeIn c (recordsOf h) (q .content .name) ≡ k0)) (recordNumbered (o .for) h) (way .for-prepare)
-      (λ q e f. record { prepare = q; there = find-in (λ (y : Logged). eqb (y .number) (o .for)) (recordsOf h) q e; found = e; is-for = f .0; place = f .1 })
+      found-with (ForPlace c h o) (recordNumbered (o .for) h) (way .for-prepare)
+      (λ q e f. record { prepare = q; there = find-in (λ (y : Logged). eqb (y .number) (o .for)) (recordsOf h) q e; found = e; is-for = f .is-for; place = f .place })
 
   abbrev r : Logged
   r = prepare-of .prepare

@@ -1,8 +1,8 @@
 -- The invariant of a world: its history satisfies `HistoryInvariant`, and the state of coordinator and partitions agrees with its history.
 -- Every item of a run keeps it (`Steps`): the events that the item adds may come next, and the state agrees with the longer history. Why:
 -- The log buffer holds the frames of the history's records, and the flushed lengths are equal. A cut leaves the records whose frames are whole in what
--- is left, and an opening reads exactly these; both are laws of the crate `writer`.
--- The rows of a partition agree with the open entries at every cut: an entry is open if and only if the row at its name's place is, and has its pid. So
+-- is left, and an opening reads exactly these (`Written` and its laws, crate `writer`).
+-- The rows of a partition agree with the open entries at every cut: a row is open if and only if an entry of the name at its place is, and has its pid. So
 -- a Marker that meets a closed row or another pid writes nothing and leaves nothing open, and one that meets an open row of its pid may be written.
 -- A name keeps its place at every cut that leaves a record of it, and a name with an open entry has a flushed record: a restart moves none of them.
 -- A position that is acknowledged has nothing open of its place. So the last Ack of a prepare may append the complete record; after an opening nothing
@@ -107,7 +107,8 @@ epochOf (down n before) = before
 
 -- what is acknowledged is closed
 pub record AcksAgree (c : Catalogue) (h : History) (s : Coordinator) : Type 0 where
-  pub closed : (k x : ℕ) → member (rowAt (s .table) k .acknowledged) x ≡ true → (isPrepare (rowAt (s .table) k .status) ≡ true) × NoneOpen c h (recordsOf h) x k
+  pub prepared : (k x : ℕ) → member (rowAt (s .table) k .acknowledged) x ≡ true → isPrepare (rowAt (s .table) k .status) ≡ true
+  pub closed : (k x : ℕ) → member (rowAt (s .table) k .acknowledged) x ≡ true → NoneOpen c h (recordsOf h) x k
   pub small : (k : ℕ) → rowAt (s .table) k .acknowledged < 2 ^ 64
   pub waiting : (k : ℕ) → isPrepare (rowAt (s .table) k .status) ≡ true → outstanding (rowAt (s .table) k) ≡ 0 → ⊥
 
@@ -115,9 +116,14 @@ abbrev pub AcksSide : Catalogue → Phase → History → Type 0
 AcksSide c (up s) h = AcksAgree c h s
 AcksSide c (down n before) h = Unit {0}
 
+-- a record is that of an order and of its place
+pub record ForPlace (c : Catalogue) (h : History) (o : Order) (q : Logged) : Type 0 where
+  pub is-for : IsFor o h q
+  pub place : placeIn c (recordsOf h) (q .content .name) ≡ o .place
+
 -- an order is for its place's latest record, which is a flushed prepare, and its position is not acknowledged
 pub record UnderWay (c : Catalogue) (h : History) (s : Coordinator) (o : Order) : Type 0 where
-  pub for-prepare : Found (λ (q : Logged). IsFor o h q × (placeIn c (recordsOf h) (q .content .name) ≡ o .place)) (recordNumbered (o .for) h)
+  pub for-prepare : Found (ForPlace c h o) (recordNumbered (o .for) h)
   pub coordinator : o .coordinator ≡ pos (s .epoch)
   pub waits : member (rowAt (s .table) (o .place) .acknowledged) (o .position) ≡ false
 

@@ -54,13 +54,15 @@ flushed-after (append place row) s h e = e
 flushed-after (acknowledgeAt place position) s h e = e
 flushed-after (flushTo n) s h e = refl
 
--- what is appended follows a flushed record, and a prepare only when nothing of its name is open
+-- a record of a name may be appended: its latest one is flushed, and if that is a prepare nothing of the name is open
+pub record MayAppendOf (s : Coordinator) (h : History) (name : List ℕ) : Type 0 where
+  pub flushed : unflushed (s .flushed) (rowAt (s .table) (placeOf (s .table) name)) ≡ false
+  pub nothing-open : isPrepare (rowAt (s .table) (placeOf (s .table) name) .status) ≡ true → NothingOpen name h
+
 abbrev pub MayAppend : Coordinator → History → Action → Type 0
 MayAppend s h keep = Unit {0}
 MayAppend s h (advance clock) = Unit {0}
-MayAppend s h (append place row) =
-    (unflushed (s .flushed) (rowAt (s .table) (placeOf (s .table) (row .name))) ≡ false)
-    × (isPrepare (rowAt (s .table) (placeOf (s .table) (row .name)) .status) ≡ true → NothingOpen (row .name) h)
+MayAppend s h (append place row) = MayAppendOf s h (row .name)
 MayAppend s h (acknowledgeAt place position) = Unit {0}
 MayAppend s h (flushTo n) = Unit {0}
 
@@ -75,7 +77,7 @@ module _ (c : Catalogue) (log : List ℕ) (s : Coordinator) (h : History) (u : U
   pub up-extends : (a : Action) → Lawful s a → MayAppend s h a → Extends c h (historyAfter a s h)
   up-extends keep l w = still
   up-extends (advance clock) l w = still
-  up-extends (append place row) l (f, p) = more still (append-may c log s h u t place row l f p)
+  up-extends (append place row) l m = more still (append-may c log s h u t place row l (m .flushed) (m .nothing-open))
   up-extends (acknowledgeAt place position) l w = still
   up-extends (flushTo n) (rises, within) w = more {e = logFlushed n} still (subst (λ (k : ℕ). k ≤ n) (u .flushed) rises)
 

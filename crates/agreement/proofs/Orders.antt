@@ -42,7 +42,7 @@ use Rattle.protocol.proofs.AfterPrepare.{latest-last}
 use Rattle.protocol.proofs.Events.{given-records, KeepsRecords}
 use Rattle.protocol.proofs.WritesNothing.{WritesNothing, given-writes-nothing}
 use Rattle.protocol.proofs.Extends.{kept-stands}
-use Rattle.agreement.proofs.Invariant.{placeIn, AcksSide, UnderWay, CarryingSide, Invariant}
+use Rattle.agreement.proofs.Invariant.{placeIn, AcksSide, UnderWay, CarryingSide, Invariant, ForPlace}
 use Rattle.agreement.proofs.FlushedFirst.{proper}
 use Rattle.agreement.proofs.LiveTable.{live-record-at, RecordAt}
 use Rattle.agreement.proofs.Acknowledgements.{none-open-kept, acks-kept}
@@ -74,8 +74,8 @@ for-same o h v q r f i =
 pub way-same : (c : Catalogue) (h v : History) (s : Coordinator) (o : Order) → recordsOf v ≡ recordsOf h → flushedOf v ≡ flushedOf h → UnderWay c h s o → UnderWay c v s o
 way-same c h v s o r f u =
     record {
-      for-prepare = found-with (λ (q : Logged). IsFor o h q × (placeIn c (recordsOf h) (q .content .name) ≡ o .place)) (recordNumbered (o .for) h) (u .for-prepare)
-          (λ q e i. let e′ : recordNumbered (o .for) v ≡ some q = rw r e in found-is (λ (q : Logged). IsFor o v q × (placeIn c (recordsOf v) (q .content .name) ≡ o .place)) e′ (for-same o h v q r f (i .0), rw r (i .1)));
+      for-prepare = found-with (ForPlace c h o) (recordNumbered (o .for) h) (u .for-prepare)
+          (λ q e i. let e′ : recordNumbered (o .for) v ≡ some q = rw r e in found-is (ForPlace c v o) e′ (record { is-for = for-same o h v q r f (i .is-for); place = rw r (i .place) }));
       coordinator = u .coordinator;
       waits = u .waits;
     }
@@ -177,7 +177,7 @@ module _ (w : World) (i : Invariant w) (s : Coordinator) (u : w .phase ≡ up s)
   under-way : UnderWay c h s given
   under-way =
       record {
-        for-prepare = found-is (λ (q : Logged). IsFor given h q × (placeIn c (recordsOf h) (q .content .name) ≡ place)) found-for (is-for, ap (placeIn c (recordsOf h)) same-name ∙ st .place);
+        for-prepare = found-is (ForPlace c h given) found-for (record { is-for = is-for; place = ap (placeIn c (recordsOf h)) same-name ∙ st .place });
         coordinator = natural-back w32 (s .epoch) (log-of w i s u .written .numbers .epoch-fits);
         waits = position-left .1;
       }

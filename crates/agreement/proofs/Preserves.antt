@@ -175,12 +175,12 @@ module _ (w : World) (i : Invariant w) where
     leaders-after : (a : Action) → Lawful s a → MayAppend s h a → (x : ℕ) → LeaderAgrees c (historyAfter a s h) (s .epoch) x (leaderAt w x)
     leaders-after keep l k x = leaders-of x
     leaders-after (advance clock) l k x = leaders-of x
-    leaders-after (append place row) l (f, p) x =
+    leaders-after (append place row) l m x =
         let end = logEnd s + length (rowFrame s row) in
         let a = leaders-of x in
         record {
           words = a .words ∙ sym (words-same x (recordAppended (recordOf row) end) h refl);
-          rows = rows-append c h (i .of-history) x (leaderAt w x .partition) (a .rows) (recordOf row) end (append-may c (w .log) s h log-of (i .of-history) place row l f p);
+          rows = rows-append c h (i .of-history) x (leaderAt w x .partition) (a .rows) (recordOf row) end (append-may c (w .log) s h log-of (i .of-history) place row l (m .flushed) (m .nothing-open));
           coordinator = a .coordinator;
         }
     leaders-after (acknowledgeAt place position) l k x = leaders-of x
@@ -190,9 +190,9 @@ module _ (w : World) (i : Invariant w) where
     acks-after : (a : Action) → Lawful s a → MayAppend s h a → AcknowledgesClosed c s h a → AcksAgree c (historyAfter a s h) (after a s)
     acks-after keep l k n = acks-of
     acks-after (advance clock) l k n = acks-rows c h s (after (advance clock) s) (λ j. refl) acks-of
-    acks-after (append place row) l (f, p) n =
+    acks-after (append place row) l m n =
         acks-appended c h (i .of-history) s acks-of place row inside (l .none-acknowledged)
-        (subst (λ (y : Catalogue). wellFormed y (recordOf row) ≡ true) (log-of .written .catalogue-is) (l .formed)) (append-may c (w .log) s h log-of (i .of-history) place row l f p)
+        (subst (λ (y : Catalogue). wellFormed y (recordOf row) ≡ true) (log-of .written .catalogue-is) (l .formed)) (append-may c (w .log) s h log-of (i .of-history) place row l (m .flushed) (m .nothing-open))
       where
         inside : place < length (s .table .rows)
         inside =
@@ -228,7 +228,7 @@ module _ (w : World) (i : Invariant w) where
     flushed-first-may-append : (a : Action) → FlushedFirst s a → MayAppend s h a
     flushed-first-may-append keep k = tt
     flushed-first-may-append (advance clock) k = tt
-    flushed-first-may-append (append place row) k = (k .flushed, λ p. not-both (k .unprepared) p)
+    flushed-first-may-append (append place row) k = record { flushed = k .flushed; nothing-open = λ p. not-both (k .unprepared) p }
     flushed-first-may-append (acknowledgeAt place position) k = tt
     flushed-first-may-append (flushTo n) k = tt
 

@@ -237,7 +237,7 @@ module _ (w : World) (i : Invariant w) (s : Coordinator) (u : w .phase ≡ up s)
         (none-carried c (entryWritten e ∷ h) (w .phase))
       where
         kept : (y k : ℕ) → member (rowAt (s .table) k .acknowledged) y ≡ true → NoneOpen c h (recordsOf h) y k → NoneOpen c (entryWritten e ∷ h) (recordsOf (entryWritten e ∷ h)) y k
-        kept y k m n = none-open-entered c h e y k (λ a b. true≢false (sym (subst (λ (j : ℕ). isPrepare (rowAt (s .table) j .status) ≡ true) (sym b ∙ at) (acks-of w i s u .closed k y m .0))
+        kept y k m n = none-open-entered c h e y k (λ a b. true≢false (sym (subst (λ (j : ℕ). isPrepare (rowAt (s .table) j .status) ≡ true) (sym b ∙ at) (acks-of w i s u .prepared k y m))
             ∙ ap isPrepare (is-begin (row .status) (t .begins)))) n
 
   pub produces-own : Preserves w (leaderDoes x (produce s p (length words) name pid epoch x sequence payload .action) (entryWritten e) nothing w)

@@ -1,7 +1,7 @@
 -- A cut, an opening of what it left, and calls that are lent another slice, preserve the invariant.
 use Prim.Native.Nat.{ℕ, _≤_}
 use mathlib.Core.Path.{_≡_, refl, sym, ap, subst, _∙_}
-use mathlib.Core.Bool.{Bool, true, false, _&&_}
+use mathlib.Core.Bool.{true, false, _&&_}
 use mathlib.Core.List.{List, _∷_}
 use native.Mathlib.Omega.{arith}
 use lib.Dec.{eqb, leb}
@@ -29,6 +29,7 @@ use Rattle.table.proofs.Valid.{Valid}
 use Rattle.log_reader.specs.Records.{tableOf}
 use Rattle.log_reader.proofs.RecordsRead.{scan-records}
 use Rattle.log_reader.proofs.TableSays.{records-valid}
+use Rattle.coordinator.specs.Flush.{flush}
 use Rattle.coordinator.specs.Coordinator.{logEnd, admits, Action, keep}
 use Rattle.coordinator.specs.Init.{initTests, initAccepted, init}
 use Rattle.coordinator.specs.Add.{addTests, add}
@@ -82,6 +83,7 @@ cuts w i s u n e =
 pub fresh-acks : (c : Catalogue) (h : History) (s : Coordinator) → Valid c (s .table) → AcksAgree c h s
 fresh-acks c h s v =
     record {
+      prepared = λ k x m. absurd (member-nothing x (rw (v .none-acknowledged k) at m));
       closed = λ k x m. absurd (member-nothing x (rw (v .none-acknowledged k) at m));
       small = λ k. rw (v .none-acknowledged k) (omega arith);
       waiting = λ k p z.
@@ -115,28 +117,20 @@ reopens w i n before u epoch first last typed e =
 
 -- ---- another slice
 
--- every call but Flush is lent the log buffer
-abbrev pub takesLog : CoordinatorCall → Bool
-takesLog (initCall name timeout time) = true
-takesLog (addCall name pid epoch set time) = true
-takesLog (endCall name pid epoch verdict time) = true
-takesLog (tickCall time) = true
-takesLog (flushCall n) = false
-takesLog (ackCall place pid epoch position) = true
-
-module _ (s : Coordinator) (n : ℕ) (e : admits s n ≡ false) where
-  pub call-refused : (c : CoordinatorCall) → takesLog c ≡ true → actionOf c s n ≡ keep
-  unfolding init add end tick ack
-  call-refused (initCall name timeout time) b = unless-does (firstRefusal (initTests s n name timeout time)) InitRefused keep (initAccepted s name timeout time) (λ (a : Action). a ≡ keep) refl
-      (λ z. not-both e (init-passed s n name timeout time z .admitted))
-  call-refused (addCall name pid epoch set time) b = unless-does (firstRefusal (addTests s n name pid epoch set time)) Refused keep _ (λ (a : Action). a ≡ keep) refl
-      (λ z. not-both e (add-passed s n name pid epoch set time z .admitted))
-  call-refused (endCall name pid epoch verdict time) b = unless-does (firstRefusal (endTests s n name pid epoch verdict)) Refused keep _ (λ (a : Action). a ≡ keep) refl
-      (λ z. not-both e (end-passed s n name pid epoch verdict time z .admitted))
-  call-refused (tickCall time) b = unless-does (firstRefusal (tickTests s n)) TickRefused keep (tickAccepted s time) (λ (a : Action). a ≡ keep) refl (λ z. not-both e (tick-passed s n time z .admitted))
-  call-refused (flushCall length) b = not-both refl b
-  call-refused (ackCall place pid epoch position) b = unless-does (firstRefusal (ackTests s n place pid epoch position)) Refused keep _ (λ (a : Action). a ≡ keep) refl
-      (λ z. not-both e (ack-passed s n place pid epoch position z .admitted))
+-- lent a slice of another length every call is refused but Flush, which sees none
+pub elsewhere-cases : (s : Coordinator) (n : ℕ) → admits s n ≡ false → (P : Action → Type 0) → P keep → ((m : ℕ) → P (flush s m .action)) → (c : CoordinatorCall) → P (actionOf c s n)
+unfolding init add end tick ack
+elsewhere-cases s n e P kept flushes (initCall name timeout time) =
+    unless-does (firstRefusal (initTests s n name timeout time)) InitRefused keep (initAccepted s name timeout time) P kept (λ z. not-both e (init-passed s n name timeout time z .admitted))
+elsewhere-cases s n e P kept flushes (addCall name pid epoch set time) =
+    unless-does (firstRefusal (addTests s n name pid epoch set time)) Refused keep _ P kept (λ z. not-both e (add-passed s n name pid epoch set time z .admitted))
+elsewhere-cases s n e P kept flushes (endCall name pid epoch verdict time) =
+    unless-does (firstRefusal (endTests s n name pid epoch verdict)) Refused keep _ P kept (λ z. not-both e (end-passed s n name pid epoch verdict time z .admitted))
+elsewhere-cases s n e P kept flushes (tickCall time) =
+    unless-does (firstRefusal (tickTests s n)) TickRefused keep (tickAccepted s time) P kept (λ z. not-both e (tick-passed s n time z .admitted))
+elsewhere-cases s n e P kept flushes (flushCall m) = flushes m
+elsewhere-cases s n e P kept flushes (ackCall place pid epoch position) =
+    unless-does (firstRefusal (ackTests s n place pid epoch position)) Refused keep _ P kept (λ z. not-both e (ack-passed s n place pid epoch position z .admitted))
 
 module _ (w : World) (i : Invariant w) (s : Coordinator) (u : w .phase ≡ up s) (n : ℕ) (d : n ≡ length (w .log) → ⊥) where
   pub not-admitted : admits s n ≡ false
@@ -145,16 +139,9 @@ module _ (w : World) (i : Invariant w) (s : Coordinator) (u : w .phase ≡ up s)
   same-state : Preserves w (coordinatorElsewhere keep s w)
   same-state = subst (λ (p : Phase). Preserves w (record { text = w .text; log = w .log; phase = p; leaders = w .leaders; carrying = nothing; history = w .history })) u (idles w i)
 
-  refused-elsewhere : (c : CoordinatorCall) → takesLog c ≡ true → Preserves w (coordinatorElsewhere (actionOf c s n) s w)
-  refused-elsewhere c b = rw (call-refused s n not-admitted c b) same-state
-
   pub calls-elsewhere : (c : CoordinatorCall) → Preserves w (coordinatorElsewhere (actionOf c s n) s w)
-  calls-elsewhere (initCall name timeout time) = refused-elsewhere (initCall name timeout time) refl
-  calls-elsewhere (addCall name pid epoch set time) = refused-elsewhere (addCall name pid epoch set time) refl
-  calls-elsewhere (endCall name pid epoch verdict time) = refused-elsewhere (endCall name pid epoch verdict time) refl
-  calls-elsewhere (tickCall time) = refused-elsewhere (tickCall time) refl
-  calls-elsewhere (flushCall m) = subst (Preserves w) (sym (flush-elsewhere m s w)) (calls w i s u (flushCall m) refl refl)
-  calls-elsewhere (ackCall place pid epoch position) = refused-elsewhere (ackCall place pid epoch position) refl
+  calls-elsewhere =
+      elsewhere-cases s n not-admitted (λ (a : Action). Preserves w (coordinatorElsewhere a s w)) same-state (λ m. subst (Preserves w) (sym (flush-elsewhere m s w)) (calls w i s u (flushCall m) refl refl))
 
 module _ (w : World) (i : Invariant w) (x n : ℕ) (d : n ≡ length (leaderAt w x .words) → ⊥) where
   words-not-admitted : partitionAdmits (leaderAt w x .partition) n ≡ false

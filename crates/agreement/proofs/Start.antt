@@ -40,7 +40,7 @@ use Rattle.writer.proofs.Written.{written-end}
 use Rattle.partition.specs.Partition.{openPartition, producerAt, noProducer}
 use Rattle.partition.specs.declared.Producer.{Producer}
 use Rattle.runs.specs.History.{recordAppended, logOpened, History, ordersIn, markersIn, collect, collectWithBefore, recordsOf, contents, endOf, wordsOf}
-use Rattle.runs.specs.World.{openLeader, openLeaders, recordsRead, up, nothing, FirstOpening, Accepted, start}
+use Rattle.runs.specs.World.{openLeader, openLeaders, recordsRead, up, nothing, FirstOpening, Accepted, start, World}
 use Rattle.runs.specs.Demand3.{Ends}
 use Rattle.runs.proofs.Admitted.{start-own}
 use Rattle.protocol.specs.RecordsOfName.{NumberedBelow}
@@ -237,23 +237,21 @@ module _ (o : FirstOpening) (a : Accepted o) where
   opened-count (suc n) [] = ap suc (opened-count n [])
   opened-count (suc n) (l ∷ words) = ap suc (opened-count n words)
 
-  starts-so : (v : History) → v ≡ h → Invariant (record {
-    text = o .text;
-    log = o .log;
-    phase = up (opening (o .text) (o .log) (o .length) (o .epoch) (o .first) (o .last) .state);
-    leaders = openLeaders positions (o .words);
-    carrying = nothing;
-    history = v;
-  })
-  starts-so v e = subst (λ (y : History). Invariant (record {
-    text = o .text;
-    log = o .log;
-    phase = up (opening (o .text) (o .log) (o .length) (o .epoch) (o .first) (o .last) .state);
-    leaders = openLeaders positions (o .words);
-    carrying = nothing;
-    history = y;
-  })) (sym e)
-      (record {
+  -- the world that a history starts
+  abbrev startWith : History → World
+  startWith v =
+      record {
+        text = o .text;
+        log = o .log;
+        phase = up (opening (o .text) (o .log) (o .length) (o .epoch) (o .first) (o .last) .state);
+        leaders = openLeaders positions (o .words);
+        carrying = nothing;
+        history = v;
+      }
+
+  start-agrees : Invariant (startWith h)
+  start-agrees =
+      record {
         parsed = parsed;
         of-history = of-history;
         offsets = rw no-entries tt;
@@ -263,7 +261,7 @@ module _ (o : FirstOpening) (a : Accepted o) where
         count = opened-count positions (o .words);
         leaders = λ x. let (l, is) = opened-at positions (o .words) x in rw is (fresh-leader _ x l);
         carried = tt;
-      })
+      }
 
   pub start-invariant : Invariant (start o)
-  start-invariant = starts-so (logOpened (o .epoch) ∷ recordsRead c (o .length) 0 (take (o .length) (o .log)) []) (ap (λ (y : History). logOpened (o .epoch) ∷ y) first-events)
+  start-invariant = subst (λ (v : History). Invariant (startWith v)) (sym (ap (λ (y : History). logOpened (o .epoch) ∷ y) first-events)) start-agrees

@@ -15,6 +15,7 @@ use Rattle.search.proofs.Members.{In, in-nil, in-cons}
 use Rattle.partition.specs.Limits.{entryWords}
 use Rattle.partition.specs.Partition.{pidAt, kindAt}
 use Rattle.partition.specs.Read.{isMarker, nextMarker, standsUnder}
+use Rattle.partition.proofs.Reading.{next-agree}
 use Rattle.runs.specs.History.{Order, Event, recordAppended, logFlushed, logCut, logOpened, orderGiven, markerWritten, orderCarried, entryWritten, History, eventsBefore, markersIn, collect, collectWithBefore, wordsIn, wordsOf}
 use Rattle.protocol.specs.Entries.{Entry, entriesOf, kindIn, firstOf, markedFrom, underOf}
 use Rattle.protocol.proofs.Events.{events-before, entry-before}
@@ -40,13 +41,6 @@ next-one-more words pid (suc n) offset =
         → cond b (kindAt words offset) (nextMarker words pid (offset + 1) (suc n)) ≡ firstOf (cond b (kindAt words offset) (nextMarker words pid (offset + 1) n)) (markAt words pid (offset + suc n))
     go true e i = sym (first-kept (kindAt words offset) _ (marker-some (kindAt words offset) (and-right (eqb (pidAt words offset) pid) (isMarker (kindAt words offset)) e)))
     go false e i = i
-
--- only the words of these entries are looked at
-next-agree : (a b : List ℕ) (pid n offset : ℕ) → ((i : ℕ) → i < entryWords * (offset + n) → getD a i 0 ≡ getD b i 0) → nextMarker a pid offset n ≡ nextMarker b pid offset n
-unfolding nextMarker
-next-agree a b pid zero offset f = refl
-next-agree a b pid (suc n) offset f =
-    rw (f (entryWords * offset) (omega arith), f (entryWords * offset + 1) (omega arith), next-agree a b pid n (offset + 1) (λ i k. f i (omega arith))) refl
 
 -- ---- the words of a history
 

@@ -5,3 +5,4 @@ pub mod Fits
 mod MarkerSteps
 mod ProduceSteps
 pub mod Reserve
+pub mod Reading

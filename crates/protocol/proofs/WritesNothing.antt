@@ -19,14 +19,20 @@ use Rattle.protocol.proofs.Entries.{under-each}
 use Rattle.protocol.proofs.Ordinals.{nth-ending}
 use Rattle.protocol.proofs.Consequences.{closed-at, ordinal-was}
 
--- what is left of the records is what some cut leaves, and so after every cut
+-- what a cut leaves after the event, some cut leaves before it
+pub record EarlierCut (h : History) (e : Event) (k : ℕ) : Type 0 where
+  pub bytes : ℕ
+  pub low : flushedOf h ≤ bytes
+  pub same : endingBy k (recordsOf (e ∷ h)) ≡ endingBy bytes (recordsOf h)
+
+-- no record, no entry and no marker; the records that are left are those that some cut leaves, and so after every cut
 pub record WritesNothing (h : History) (e : Event) : Type 0 where
   pub no-entry : producedIn e ≡ []
   pub no-marker : markersIn e ≡ []
   pub no-kind : (position pid : ℕ) → kindIn position pid e ≡ 0
   pub left : ℕ
   pub left-is : recordsOf (e ∷ h) ≡ endingBy left (recordsOf h)
-  pub earlier-cut : (k : ℕ) → flushedOf (e ∷ h) ≤ k → (m : ℕ) × (flushedOf h ≤ m) × (endingBy k (recordsOf (e ∷ h)) ≡ endingBy m (recordsOf h))
+  pub earlier-cut : (k : ℕ) → flushedOf (e ∷ h) ≤ k → EarlierCut h e k
 
 module _ (h : History) where
   all-left : recordsOf h ≡ endingBy (endOf (recordsOf h)) (recordsOf h)
@@ -41,7 +47,7 @@ module _ (h : History) where
         no-kind = q;
         left = endOf (recordsOf h);
         left-is = s .records ∙ all-left;
-        earlier-cut = λ k f. (k, rw (s .flushed) at f, ap (endingBy k) (s .records));
+        earlier-cut = λ k f. record { bytes = k; low = rw (s .flushed) at f; same = ap (endingBy k) (s .records) };
       }
 
   pub given-writes-nothing : (o : Order) → WritesNothing h (orderGiven o)
@@ -53,12 +59,12 @@ module _ (h : History) where
   pub flush-writes-nothing : (n : ℕ) → flushedOf h ≤ n → WritesNothing h (logFlushed n)
   unfolding recordsOf flushedOf
   flush-writes-nothing n b =
-      record { no-entry = refl; no-marker = refl; no-kind = λ position pid. refl; left = endOf (recordsOf h); left-is = all-left; earlier-cut = λ k f. (k, omega arith, refl) }
+      record { no-entry = refl; no-marker = refl; no-kind = λ position pid. refl; left = endOf (recordsOf h); left-is = all-left; earlier-cut = λ k f. record { bytes = k; low = omega arith; same = refl } }
 
   pub cut-writes-nothing : (n : ℕ) → flushedOf h ≤ n → WritesNothing h (logCut n)
   unfolding recordsOf flushedOf
   cut-writes-nothing n b =
-      record { no-entry = refl; no-marker = refl; no-kind = λ position pid. refl; left = n; left-is = refl; earlier-cut = λ k f. (n, b, ending-again n k (recordsOf h) f) }
+      record { no-entry = refl; no-marker = refl; no-kind = λ position pid. refl; left = n; left-is = refl; earlier-cut = λ k f. record { bytes = n; low = b; same = ending-again n k (recordsOf h) f } }
 
   pub opened-writes-nothing : (epoch : ℤ) → endOf (recordsOf h) ≤ flushedOf h → WritesNothing h (logOpened epoch)
   unfolding recordsOf flushedOf
@@ -69,7 +75,7 @@ module _ (h : History) where
         no-kind = λ position pid. refl;
         left = endOf (recordsOf h);
         left-is = all-left;
-        earlier-cut = λ k f. (flushedOf h, omega arith, ending-all k (recordsOf h) f ∙ sym (ending-all (flushedOf h) (recordsOf h) b));
+        earlier-cut = λ k f. record { bytes = flushedOf h; low = omega arith; same = ending-all k (recordsOf h) f ∙ sym (ending-all (flushedOf h) (recordsOf h) b) };
       }
 
 module _ (c : Catalogue) (h : History) (t : HistoryInvariant c h) where
@@ -80,8 +86,8 @@ module _ (c : Catalogue) (h : History) (t : HistoryInvariant c h) where
         ends = rw (q .left-is) (ending-ends (q .left) c (recordsOf h) (t .ends));
         numbered = rw (q .left-is) (numbered-more (length h) (suc (length h)) (endingBy (q .left) (recordsOf h)) (omega arith) (ending-numbered (q .left) (length h) (recordsOf h) (t .numbered)));
         entitled = rw entries (t .entitled);
-        standing = λ k b. let (m, f, v) = q .earlier-cut k b in
-            rw (v, entries) (under-each h e (q .no-kind) (λ (n : ℕ) (p : Entry). Standing n (endingBy m (recordsOf h)) p) (t .standing m f));
+        standing = λ k b. let v = q .earlier-cut k b in
+            rw (v .same, entries) (under-each h e (q .no-kind) (λ (n : ℕ) (p : Entry). Standing n (endingBy (v .bytes) (recordsOf h)) p) (t .standing (v .bytes) (v .low)));
         by-ordinal = rw (q .left-is, entries)
             (in-each _ (endingBy (q .left) (recordsOf h))
             (λ r i prepares. in-each _ (entriesOf h)
@@ -92,9 +98,9 @@ module _ (c : Catalogue) (h : History) (t : HistoryInvariant c h) where
         marks = rw same-markers (each-then (MarksPrepare h) (MarksPrepare (e ∷ h))
             (λ m i. record { earlier = omega (arith, i .earlier); marked = rw (q .left-is) (ending-each (q .left) (λ (r : Logged). r .number ≡ m .for → Marks m r) (recordsOf h) (i .marked)) })
             (collect markersIn h) (t .marks));
-        already-closed = λ k b. let (m, f, v) = q .earlier-cut k b in
-            rw (v, same-markers, entries)
-            (in-each _ (collect markersIn h) (λ o i. under-each h e (q .no-kind) (λ (n : ℕ) (p : Entry). AlreadyClosed n (endingBy m (recordsOf h)) o p) (closed-at c h t o i m f)));
+        already-closed = λ k b. let v = q .earlier-cut k b in
+            rw (v .same, same-markers, entries)
+            (in-each _ (collect markersIn h) (λ o i. under-each h e (q .no-kind) (λ (n : ℕ) (p : Entry). AlreadyClosed n (endingBy (v .bytes) (recordsOf h)) o p) (closed-at c h t o i (v .bytes) (v .low))));
         one-marker = rw same-markers (t .one-marker);
       }
     where

@@ -1,7 +1,7 @@
 -- Read in every run: it answers exactly the payloads of the entries that stand under COMMIT, up to the stable end.
 use Prim.Native.Nat.{ℕ, zero, suc, _+_, _-_, _*_, _≤_, _<_, min}
 use mathlib.Core.Path.{_≡_, refl, sym, ap, _∙_}
-use mathlib.Core.Bool.{Bool, true, false, true≢false}
+use mathlib.Core.Bool.{Bool, true, false}
 use mathlib.Core.List.{List, [], _∷_, _++_, map, reverse, reverse-append, map-map}
 use native.Mathlib.Omega.{arith}
 use lib.Dec.{eqb, leb}
@@ -9,7 +9,7 @@ use lib.IntN.{pos}
 use lib.ListN.{length, take, getD, length-take, length-map}
 use lib.Seq.{getD-take, take-nil}
 use borrow.Author.Tests.{eqb-true, eq-eqb, ne-eqb, leb-true, le-ltb, ltb-true}
-use Rattle.numbers.proofs.Tests.{by-cases, and-left, and-right, either}
+use Rattle.numbers.proofs.Tests.{and-left, and-right, either}
 use Rattle.search.specs.Search.{isFound, found, filter, Each}
 use Rattle.search.proofs.Members.{In, in-each}
 use Rattle.search.proofs.Find.{each-filter, filter-same, reverse-map, filter-map, each-reverse, filter-join, filter-miss, filter-none, filter-hit}
@@ -18,9 +18,9 @@ use Rattle.answers.specs.Refusals.{firstRefusal}
 use Rattle.answers.specs.Answers.{accepted}
 use Rattle.answers.proofs.Laws.{none-is}
 use Rattle.partition.specs.Limits.{entryWords}
-use Rattle.partition.specs.Partition.{admits, noProducer, kindAt, payloadAt, oldest, stableEnd}
+use Rattle.partition.specs.Partition.{admits, kindAt, payloadAt, stableEnd}
 use Rattle.partition.specs.Read.{standsUnder, committed, copy, readTests, copied, readAnswer, readOut}
-use Rattle.partition.specs.declared.Producer.{Producer}
+use Rattle.partition.proofs.Reading.{oldest-most, oldest-row}
 use Rattle.partition.proofs.Reserve.{admits-length}
 use Rattle.runs.specs.History.{Order, Produced, History, producedIn, collect, collectWithBefore, flushedOf, markerOver, wordsOf}
 use Rattle.runs.specs.World.{Leader, openLeader, World, catalogueOf, leaderAt, start, run}
@@ -160,19 +160,6 @@ module _ (w : World) (i : Invariant w) (x : ℕ) where
       copy-next o (suc room) = unfold copy in refl
   copy-is (suc n) o b room = copy-step o n room (there-is o n (omega arith)) (λ r. copy-is n (o + 1) (omega arith) r)
 
--- ---- the stable end
-
-stable-most : (end : ℕ) (producers : List Producer) → oldest end producers ≤ end
-unfolding oldest
-stable-most end [] = omega arith
-stable-most end (q ∷ producers) = let i = stable-most end producers in by-cases (λ (n : ℕ). n ≤ end) (q .ongoing) (λ e. omega arith) (λ e. i)
-
-stable-row : (end : ℕ) (producers : List Producer) (k : ℕ) → getD producers k noProducer .ongoing ≡ true → oldest end producers ≤ getD producers k noProducer .first
-unfolding oldest
-stable-row end [] k e = absurd (true≢false (sym e))
-stable-row end (q ∷ producers) zero e = rw e (omega arith)
-stable-row end (q ∷ producers) (suc k) e = let i = stable-row end producers k e in by-cases (λ (n : ℕ). n ≤ getD producers k noProducer .first) (q .ongoing) (λ t. omega arith) (λ t. i)
-
 -- ---- the entries with the events before them
 
 abbrev whatOf : Entry → Produced
@@ -231,7 +218,7 @@ module _ (w : World) (i : Invariant w) (x : ℕ) where
           let at : d .what .position ≡ x = eqb-true (d .what .position) x (search (and-left, and-right)) in
           let low : d .what .offset < stable = ltb-true (d .what .offset) stable (search (and-left, and-right)) in
           let owns = open-owns (catalogueOf w) h x (leader .partition) (i .leaders x .rows) (flushedOf h) (omega arith) d j at z in
-          let row = stable-row (leader .partition .end) (leader .partition .producers) _ (owns .ongoing) in
+          let row = oldest-row (leader .partition .end) (leader .partition .producers) _ (owns .ongoing) in
           omega (arith, owns .first)
 
   -- ---- Read
@@ -252,7 +239,7 @@ module _ (w : World) (i : Invariant w) (x : ℕ) where
     entries = committedBetween x from stable (w .history)
 
     is : CopiedSo w i x from (stable - from) (length out)
-    is = copy-is w i x (stable - from) from (let m = stable-most (leader .partition .end) (leader .partition .producers) in omega arith) (length out)
+    is = copy-is w i x (stable - from) from (let m = oldest-most (leader .partition .end) (leader .partition .producers) in omega arith) (length out)
 
     -- the entries up to the stable end
     data-is : committedData leader x from (from + (stable - from)) (w .history) ≡ map whatOf entries

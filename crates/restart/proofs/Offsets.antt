@@ -5,16 +5,15 @@ use mathlib.Core.Bool.{Bool, true, false, cond, _&&_, and-false}
 use mathlib.Core.List.{List, [], _∷_, _++_}
 use native.Mathlib.Omega.{arith}
 use lib.Dec.{eqb, leb, ltb}
-use lib.ListN.{length, getD, length-append, List·getD-append}
-use lib.Seq.{getD-append-add}
+use lib.ListN.{length, length-append}
 use borrow.Author.Tests.{eqb-true, eqb-false, eq-eqb, leb-true, leb-false, le-leb, lt-leb, lt-ltb, le-ltb, ltb-true, ltb-false}
 use Rattle.numbers.specs.Border.{toNat}
 use Rattle.numbers.proofs.Tests.{either}
 use Rattle.search.specs.Search.{filter, Each}
-use Rattle.search.proofs.Members.{here}
 use Rattle.search.proofs.Find.{filter-miss, filter-none, filter-hit}
 use Rattle.partition.specs.Limits.{entryWords}
 use Rattle.partition.specs.Partition.{kindAt, payloadAt}
+use Rattle.partition.proofs.Reading.{entry-behind, entry-last}
 use Rattle.runs.specs.History.{Order, Produced, recordAppended, logFlushed, logCut, logOpened, orderGiven, markerWritten, orderCarried, entryWritten, History, producedIn, collect, collectWithBefore, wordsOf}
 use Rattle.protocol.specs.Entries.{Entry, entriesOf}
 use Rattle.agreement.proofs.Words.{words-next, words-same}
@@ -137,18 +136,6 @@ pub moved : (x o : ℕ) (v w : List ℕ) (d f : List Produced) → filter (inRan
 moved x o v w d f l k y (dataAt e q at a b) = dataAt e (l ∙ q) at (k ∙ a) (y ∙ b)
 moved x o v w d f l k y (markerAt q a) = markerAt (l ∙ q) (λ z. a (sym k ∙ z))
 
-behind : (v : List ℕ) (a b d e o : ℕ) (w : List ℕ) → w ≡ v ++ (a ∷ b ∷ d ∷ e ∷ []) → entryWords * o + 4 ≤ length v → (kindAt w o ≡ kindAt v o) × (payloadAt w o ≡ payloadAt v o)
-behind v a b d e o w q h = (
-  ap (λ (l : List ℕ). getD l (entryWords * o + 1) 0) q ∙ List·getD-append v (a ∷ b ∷ d ∷ e ∷ []) 0 (entryWords * o + 1) (omega arith),
-  ap (λ (l : List ℕ). getD l (entryWords * o + 3) 0) q ∙ List·getD-append v (a ∷ b ∷ d ∷ e ∷ []) 0 (entryWords * o + 3) (omega arith),
-)
-
-last-four : (v : List ℕ) (a b d e o : ℕ) (w : List ℕ) → w ≡ v ++ (a ∷ b ∷ d ∷ e ∷ []) → entryWords * o ≡ length v → (kindAt w o ≡ b) × (payloadAt w o ≡ e)
-last-four v a b d e o w q h = (
-  ap (λ (l : List ℕ). getD l (entryWords * o + 1) 0) q ∙ ap (λ (n : ℕ). getD (v ++ (a ∷ b ∷ d ∷ e ∷ [])) (n + 1) 0) h ∙ getD-append-add v (a ∷ b ∷ d ∷ e ∷ []) 1 0,
-  ap (λ (l : List ℕ). getD l (entryWords * o + 3) 0) q ∙ ap (λ (n : ℕ). getD (v ++ (a ∷ b ∷ d ∷ e ∷ [])) (n + 3) 0) h ∙ getD-append-add v (a ∷ b ∷ d ∷ e ∷ []) 3 0,
-)
-
 same-at : (x o : ℕ) (h v : History) → wordsOf x v ≡ wordsOf x h → dataIn v ≡ dataIn h → AtOffset x (wordsOf x h) (dataIn h) o → AtOffset x (wordsOf x v) (dataIn v) o
 same-at x o h v e f a = rw (e, f) a
 
@@ -171,9 +158,9 @@ at-offset x o (markerWritten m ∷ h) i n q b =
     let z = four-more (wordsOf x h) (wordsOf x (markerWritten m ∷ h)) c (m .verdict + 1) d 0 w in
     let before : entryWords * (n - 1) ≡ length (wordsOf x h) = omega arith in
     either (ltb o (n - 1))
-    (λ l. let low = ltb-true o (n - 1) l in let (k, y) = behind (wordsOf x h) c (m .verdict + 1) d 0 o (wordsOf x (markerWritten m ∷ h)) w (omega arith) in moved x o (wordsOf x h)
+    (λ l. let low = ltb-true o (n - 1) l in let (k, y) = entry-behind (wordsOf x h) c (m .verdict + 1) d 0 o (wordsOf x (markerWritten m ∷ h)) w (omega arith) in moved x o (wordsOf x h)
     (wordsOf x (markerWritten m ∷ h)) (dataIn h) (dataIn h) refl k y (at-offset x o h i (n - 1) before low))
-    (λ l. let high = ltb-false o (n - 1) l in let (k, y) = last-four (wordsOf x h) c (m .verdict + 1) d 0 o (wordsOf x (markerWritten m ∷ h)) w (omega arith) in
+    (λ l. let high = ltb-false o (n - 1) l in let (k, y) = entry-last (wordsOf x h) c (m .verdict + 1) d 0 o (wordsOf x (markerWritten m ∷ h)) w (omega arith) in
     markerAt (filter-none (inRange x o (o + 1)) (dataIn h) (falling-none x (n - 1) o (o + 1) high (dataIn h) (falling x h i (n - 1) before))) (λ e. omega arith)))
     (λ t. let w = no-marker-words x m h t in same-at x o h (markerWritten m ∷ h) w refl (at-offset x o h i n (q ∙ ap length w) b))
 at-offset x o (entryWritten e ∷ h) (i, is) n q b =
@@ -184,10 +171,10 @@ at-offset x o (entryWritten e ∷ h) (i, is) n q b =
     let z = four-more (wordsOf x h) (wordsOf x (entryWritten e ∷ h)) c 0 d (e .payload) w in
     let at : entryWords * e .offset ≡ length (wordsOf x h) = i ∙ ap (λ (y : ℕ). length (wordsOf y h)) same in
     either (ltb o (e .offset))
-    (λ l. let low = ltb-true o (e .offset) l in let (k, y) = behind (wordsOf x h) c 0 d (e .payload) o (wordsOf x (entryWritten e ∷ h)) w (omega arith) in
+    (λ l. let low = ltb-true o (e .offset) l in let (k, y) = entry-behind (wordsOf x h) c 0 d (e .payload) o (wordsOf x (entryWritten e ∷ h)) w (omega arith) in
     moved x o (wordsOf x h) (wordsOf x (entryWritten e ∷ h)) (dataIn h) (e ∷ dataIn h)
     (filter-miss (inRange x o (o + 1)) e (dataIn h) (rw (t, le-ltb (e .offset) (o + 1) (omega arith), and-false (leb o (e .offset))) refl)) k y (at-offset x o h is (e .offset) at low))
-    (λ l. let high = ltb-false o (e .offset) l in let here : e .offset ≡ o = omega arith in let (k, y) = last-four (wordsOf x h) c 0 d (e .payload) o (wordsOf x (entryWritten e ∷ h)) w (omega arith) in
+    (λ l. let high = ltb-false o (e .offset) l in let here : e .offset ≡ o = omega arith in let (k, y) = entry-last (wordsOf x h) c 0 d (e .payload) o (wordsOf x (entryWritten e ∷ h)) w (omega arith) in
     dataAt e (filter-hit (inRange x o (o + 1)) e (dataIn h) (rw (t, le-leb o (e .offset) (omega arith), lt-ltb (e .offset) (o + 1) (omega arith)) refl)
     ∙ ap (λ (m : List Produced). e ∷ m) (filter-none (inRange x o (o + 1)) (dataIn h) (falling-none x (e .offset) o (o + 1) (omega arith) (dataIn h) (falling x h is (e .offset) at)))) here k y))
     (λ t. let w = no-entry-words x e h t in moved x o (wordsOf x h) (wordsOf x (entryWritten e ∷ h)) (dataIn h) (e ∷ dataIn h) (filter-miss (inRange x o (o + 1)) e (dataIn h) (rw t refl))

@@ -72,7 +72,7 @@ total-other p x n a b h v r d k l (finished e f) = finished (completed-more p x 
 total-other p x n a b h v r d k l (unfinished e f) =
     unfinished (ap (latestIn (p .content .name)) r ∙ find-miss (isOf (p .content .name)) x (recordsOf h) (same-false (x .content .name) (p .content .name) d) ∙ e) (rw (k, l) f)
 
--- whatever its name, what is over stays
+-- a record of any name leaves a completed prepare completed
 pub total-over : (p x : Logged) (n : ℕ) (b : Phase) (h v : History) → recordsOf v ≡ x ∷ recordsOf h → collect carriedIn v ≡ collect carriedIn h → isCompleted h p ≡ true → carriedFor p h ≡ n → TotalOrders p n b v
 total-over p x n b h v r k e f = finished (completed-more p x h v r e) (rw k f)
 

@@ -38,7 +38,7 @@ use Rattle.coordinator.specs.Flush.{flush}
 use Rattle.coordinator.specs.Order.{order}
 use Rattle.coordinator.specs.Open.{opening}
 use Rattle.coordinator.specs.declared.Coordinator.{Coordinator}
-use Rattle.coordinator.specs.Calls.{CoordinatorCall, initCall, addCall, endCall, tickCall, flushCall, ackCall, callTyped, actionOf}
+use Rattle.coordinator.specs.Calls.{flushCall, callTyped, actionOf}
 use Rattle.coordinator.proofs.AckCases.{ack-completed, ack-noted, acknowledged-row}
 use Rattle.writer.specs.Writer.{openingReply}
 use Rattle.writer.proofs.Decisions.{Decided, byCall}
@@ -63,7 +63,7 @@ use Rattle.agreement.proofs.Tables.{place-name}
 use Rattle.agreement.proofs.Preserves.{log-of, acks-of, carrying-of, place-of, ready-of, row-of, rows-of}
 use Rattle.agreement.proofs.Delivers.{place-below, prepare-of}
 use Rattle.agreement.proofs.Acknowledges.{row-is, ack-passes, row-joins, joined-small, position-below}
-use Rattle.agreement.proofs.Restarts.{opening-valid, takesLog, call-refused, not-admitted}
+use Rattle.agreement.proofs.Restarts.{opening-valid, elsewhere-cases, not-admitted}
 use Rattle.restart.proofs.TotalOrders.{leftOf, TotalOrders, finished, unfinished, total-same, total-other, total-over, completed-now, left-appended, place-acknowledged, carried-more}
 
 module _ (p : Logged) (prepares : isPrepare (p .content .status) ≡ true) (n : ℕ) (w : World) (i : Invariant w) (stands : In p (recordsOf (w .history))) (t : TotalOrders p n (w .phase) (w .history)) where
@@ -307,20 +307,8 @@ module _ (p : Logged) (prepares : isPrepare (p .content .status) ≡ true) (n : 
       while-up-cases Counts w same-world _ (λ s u. lent-cases Counts w same-world lent (actionOf k s) s
       (λ o. acts s u (actionOf k s (length (w .log))) (byCall k (and-left (callTyped k) (not (isAck k)) so) refl)
       (call-flushed-first s (ready-of w i s u) (length (w .log)) k (not-true (isAck k) (and-right (callTyped k) (not (isAck k)) so))))
-      (λ m e. elsewhere s u m e k))
-    where
-      refused : (s : Coordinator) (u : w .phase ≡ up s) (m : ℕ) → (m ≡ length (w .log) → ⊥) → (k : CoordinatorCall) → takesLog k ≡ true → Counts (coordinatorElsewhere (actionOf k s m) s w)
-      refused s u m e k b = rw (call-refused s m (not-admitted w i s u m e) k b) (resting (coordinatorElsewhere keep s w) (sym u) refl refl)
-
-      elsewhere : (s : Coordinator) (u : w .phase ≡ up s) (m : ℕ) → (m ≡ length (w .log) → ⊥) → (k : CoordinatorCall) → Counts (coordinatorElsewhere (actionOf k s m) s w)
-      elsewhere s u m e (initCall name timeout time) = refused s u m e (initCall name timeout time) refl
-      elsewhere s u m e (addCall name pid epoch set time) = refused s u m e (addCall name pid epoch set time) refl
-      elsewhere s u m e (endCall name pid epoch verdict time) = refused s u m e (endCall name pid epoch verdict time) refl
-      elsewhere s u m e (tickCall time) = refused s u m e (tickCall time) refl
-      elsewhere s u m e (flushCall length) =
-          subst Counts (sym (flush-elsewhere length s w)) (acts s u (flush s length .action) (byCall (flushCall length) refl refl)
-          (call-flushed-first s (ready-of w i s u) 0 (flushCall length) refl))
-      elsewhere s u m e (ackCall place pid epoch position) = refused s u m e (ackCall place pid epoch position) refl
+      (λ m e. elsewhere-cases s m (not-admitted w i s u m e) (λ (a : Action). Counts (coordinatorElsewhere a s w)) (resting (coordinatorElsewhere keep s w) (sym u) refl refl)
+      (λ l. subst Counts (sym (flush-elsewhere l s w)) (acts s u (flush s l .action) (byCall (flushCall l) refl refl) (call-flushed-first s (ready-of w i s u) 0 (flushCall l) refl))) k))
   next-counts (callOrder set) so d =
       while-up-cases Counts w same-world _
       (λ s u. answered-cases Counts w s (order s set) (resting _ refl refl refl)
