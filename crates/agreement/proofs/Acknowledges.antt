@@ -49,7 +49,7 @@ use Rattle.agreement.proofs.FlushedFirst.{own-place}
 use Rattle.agreement.proofs.LogSteps.{MayAppend}
 use Rattle.agreement.proofs.Rows.{none-open-at}
 use Rattle.agreement.proofs.Acknowledgements.{none-open-kept, acks-noted}
-use Rattle.agreement.proofs.Preserves.{Preserves, AcknowledgesClosed, none-carried, log-of, acks-of, did, ready-of, rows-of, row-of, place-of}
+use Rattle.agreement.proofs.Preserves.{Preserves, AcknowledgesClosed, none-carried, log-of, acks-of, action-preserves, ready-of, rows-of, row-of, place-of}
 use Rattle.agreement.proofs.PreparedRow.{row-flushed, row-small, row-prepares}
 use Rattle.agreement.proofs.Orders.{OrderOnly, order-only-preserves, way-same, prepare-held}
 use Rattle.agreement.proofs.Delivers.{PrepareOf, prepare-of, place-below, position-listed}
@@ -157,7 +157,7 @@ module _ (w : World) (i : Invariant w) (s : Coordinator) (u : w .phase ≡ up s)
         (λ l. acks-noted c h (i .of-history) s (acks-of w i s u) k0 (o .position) inside position-below prepared joined-small row-joins (way .waits) l n)))
 
     pub acked : Preserves w (coordinatorDoes (ack s (length (w .log)) k0 (o .pid) (o .epoch) (o .position) .action) s w)
-    acked = did w i s u (ack s (length (w .log)) k0 (o .pid) (o .epoch) (o .position) .action) (byCall (ackCall k0 (o .pid) (o .epoch) (o .position)) refl refl) well notes
+    acked = action-preserves w i s u (ack s (length (w .log)) k0 (o .pid) (o .epoch) (o .position) .action) (byCall (ackCall k0 (o .pid) (o .epoch) (o .position)) refl refl) well notes
 
 -- ---- with the event that the order is carried
 
@@ -170,10 +170,10 @@ preserves-then w v z g o f =
       holds = k .holds;
     }
 
-pub acknowledges-own : (w : World) (i : Invariant w) (s : Coordinator) (u : w .phase ≡ up s) (o : Order) → UnderWay (catalogueOf w) (w .history) s o
+pub ack-preserves : (w : World) (i : Invariant w) (s : Coordinator) (u : w .phase ≡ up s) (o : Order) → UnderWay (catalogueOf w) (w .history) s o
     → NoneOpen (catalogueOf w) (w .history) (recordsOf (w .history)) (o .position) (o .place)
     → Preserves w (coordinatorDoes (ack s (length (w .log)) (o .place) (o .pid) (o .epoch) (o .position) .action) s (withEvent w (orderCarried o)))
-acknowledges-own w i s u o way n =
+ack-preserves w i s u o way n =
     let c = catalogueOf w in
     let h = w .history in
     let b : OrderOnly h (orderCarried o) = record { writes-nothing = carried-writes-nothing h o; no-words = λ x. refl; keeps = carried-records h o } in

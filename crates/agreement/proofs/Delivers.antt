@@ -281,8 +281,8 @@ module _ (w : World) (i : Invariant w) (s : Coordinator) (u : w .phase ≡ up s)
             rw (marker-records h o .records, same-entries (markerWritten o) h refl)
             (in-each _ (entriesOf h) (λ y j a b g. marked-none c h (i .of-history) o r (prepare-of .there) f k0 (prepare-of .place) k (omega arith) y j a (ap (λ (l : List Logged). placeIn c l (y .what .name)) view ∙ g) b))
 
-  pub delivers-own : (n : ℕ) → Preserves w (leaderDoes x (marker p (length words) k0 (o .pid) (o .epoch) (o .verdict) (o .coordinator) .action) (markerWritten o) (onceDone (reply (marker p (length words) k0 (o .pid) (o .epoch) (o .verdict) (o .coordinator) .answer)) n o) w)
-  delivers-own n =
+  pub marker-preserves : (n : ℕ) → Preserves w (leaderDoes x (marker p (length words) k0 (o .pid) (o .epoch) (o .verdict) (o .coordinator) .action) (markerWritten o) (onceDone (reply (marker p (length words) k0 (o .pid) (o .epoch) (o .verdict) (o .coordinator) .answer)) n o) w)
+  marker-preserves n =
       either (eqb (producerAt p k0 .pid) (toNat (o .pid)))
       (λ a. let e = eqb-true (producerAt p k0 .pid) (toNat (o .pid)) a in
       either (producerAt p k0 .ongoing)

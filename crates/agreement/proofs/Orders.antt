@@ -46,7 +46,7 @@ use Rattle.agreement.proofs.Invariant.{placeIn, AcksSide, UnderWay, Car
 use Rattle.agreement.proofs.FlushedFirst.{proper}
 use Rattle.agreement.proofs.LiveTable.{live-record-at, RecordAt}
 use Rattle.agreement.proofs.Acknowledgements.{none-open-kept, acks-kept}
-use Rattle.agreement.proofs.Preserves.{Preserves, log-same, log-of, acks-of, idles, unwritten-preserves, rows-of, ready-of}
+use Rattle.agreement.proofs.Preserves.{Preserves, log-same, log-of, acks-of, carries-nothing-preserves, unwritten-preserves, rows-of, ready-of}
 
 -- ---- an event that says something of an order alone
 
@@ -191,9 +191,9 @@ module _ (w : World) (i : Invariant w) (s : Coordinator) (u : w .phase ≡ up s)
       (subst (λ (p : Phase). CarryingSide c (orderGiven given ∷ h) p (toDeliver (length h) given)) (sym u)
       (way-same c h (orderGiven given ∷ h) s given (given-records h given .records) (given-records h given .flushed) under-way))
 
-pub orders : (w : World) (i : Invariant w) (s : Coordinator) (u : w .phase ≡ up s) (set : ℕ) → Preserves w (orderAnswered (order s set) s w)
-orders w i s u set =
+pub order-preserves : (w : World) (i : Invariant w) (s : Coordinator) (u : w .phase ≡ up s) (set : ℕ) → Preserves w (orderAnswered (order s set) s w)
+order-preserves w i s u set =
     let all = rows-of w i s u in
     either (ltb (orderPlace s set) places)
     (λ e. let l = ltb-true (orderPlace s set) places e in rw (order-given s set l) (gives w i s u set (orderPlace s set) (order-found s set all l)))
-    (λ e. rw (order-none s set (ltb-false (orderPlace s set) places e)) (idles w i))
+    (λ e. rw (order-none s set (ltb-false (orderPlace s set) places e)) (carries-nothing-preserves w i))

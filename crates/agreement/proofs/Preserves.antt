@@ -124,8 +124,8 @@ module _ (w : World) (i : Invariant w) where
   same = record { same-text = refl; extends = still; holds = λ o. i }
 
   -- nothing is carried any more
-  pub idles : Preserves w (withCarrying w nothing)
-  idles =
+  pub carries-nothing-preserves : Preserves w (withCarrying w nothing)
+  carries-nothing-preserves =
       record {
         same-text = refl;
         extends = still;
@@ -204,8 +204,8 @@ module _ (w : World) (i : Invariant w) where
         (acks-kept c h s (logFlushed n) (λ x k b o. none-open-kept c h (logFlushed n) refl (λ position pid. refl) (flush-records h n) x k o) acks-of)
 
     -- an action, lent the log buffer
-    pub did : (a : Action) → Decided s (length (w .log)) a → MayAppend s h a → AcknowledgesClosed c s h a → Preserves w (coordinatorDoes a s w)
-    did a d k n =
+    pub action-preserves : (a : Action) → Decided s (length (w .log)) a → MayAppend s h a → AcknowledgesClosed c s h a → Preserves w (coordinatorDoes a s w)
+    action-preserves a d k n =
         let l = decided-lawful s (ready-of) (length (w .log)) a d in
         let g = up-extends c (w .log) s h log-of (i .of-history) a l k in
         record {
@@ -239,7 +239,7 @@ module _ (w : World) (i : Invariant w) where
     flushed-first-acknowledges (acknowledgeAt place position) k = absurd k
     flushed-first-acknowledges (flushTo n) k = tt
 
-    pub calls : (call : CoordinatorCall) → callTyped call ≡ true → isAck call ≡ false → Preserves w (coordinatorDoes (actionOf call s (length (w .log))) s w)
-    calls call t b =
+    pub call-preserves : (call : CoordinatorCall) → callTyped call ≡ true → isAck call ≡ false → Preserves w (coordinatorDoes (actionOf call s (length (w .log))) s w)
+    call-preserves call t b =
         let k = call-flushed-first s (ready-of) (length (w .log)) call b in
-        did (actionOf call s (length (w .log))) (byCall call t refl) (flushed-first-may-append (actionOf call s (length (w .log))) k) (flushed-first-acknowledges (actionOf call s (length (w .log))) k)
+        action-preserves (actionOf call s (length (w .log))) (byCall call t refl) (flushed-first-may-append (actionOf call s (length (w .log))) k) (flushed-first-acknowledges (actionOf call s (length (w .log))) k)

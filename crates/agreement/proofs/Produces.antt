@@ -61,7 +61,7 @@ use Rattle.agreement.proofs.LiveTable.{live-record-at, RecordAt}
 use Rattle.agreement.proofs.RowsAfterProduce.{rows-entered, rows-entered-elsewhere}
 use Rattle.agreement.proofs.Acknowledgements.{none-open-entered, acks-kept}
 use Rattle.agreement.proofs.Words.{words-next, words-same}
-use Rattle.agreement.proofs.Preserves.{Preserves, log-same, none-carried, log-of, acks-of, idles, rows-of}
+use Rattle.agreement.proofs.Preserves.{Preserves, log-same, none-carried, log-of, acks-of, carries-nothing-preserves, rows-of}
 
 -- ---- a leader
 
@@ -104,10 +104,10 @@ leader-preserves w i x b l k v g offsets log-side acks here others carried =
     go y (no n) = rw (getD-set-other (w .leaders) x y l (openLeader []) n) (others y n)
 
 -- a leader that does nothing
-pub keeps-leader : (w : World) → Invariant w → (x : ℕ) → Preserves w (withLeader w x (leaderAt w x) nothing (w .history))
-keeps-leader w i x =
+pub same-leader-preserves : (w : World) → Invariant w → (x : ℕ) → Preserves w (withLeader w x (leaderAt w x) nothing (w .history))
+same-leader-preserves w i x =
     subst (λ (ls : List Leader). Preserves w (record { text = w .text; log = w .log; phase = w .phase; leaders = ls; carrying = nothing; history = w .history }))
-    (sym (set-getD (w .leaders) x (openLeader []))) (idles w i)
+    (sym (set-getD (w .leaders) x (openLeader []))) (carries-nothing-preserves w i)
 
 -- a position of the catalogue has a leader
 pub position-below : (w : World) → Invariant w → (position : ℕ) → member (catalogueOf w .all) position ≡ true → position < length (w .leaders)
@@ -240,8 +240,8 @@ module _ (w : World) (i : Invariant w) (s : Coordinator) (u : w .phase ≡ up s)
         kept y k m n = none-open-entered c h e y k (λ a b. true≢false (sym (subst (λ (j : ℕ). isPrepare (rowAt (s .table) j .status) ≡ true) (sym b ∙ at) (acks-of w i s u .prepared k y m))
             ∙ ap isPrepare (is-begin (row .status) (t .begins)))) n
 
-  pub produces-own : Preserves w (leaderDoes x (produce s p (length words) name pid epoch x sequence payload .action) (entryWritten e) nothing w)
+  pub produce-preserves : Preserves w (leaderDoes x (produce s p (length words) name pid epoch x sequence payload .action) (entryWritten e) nothing w)
   unfolding produce
-  produces-own =
+  produce-preserves =
       unless-does (firstRefusal (produceTests s p (length words) name pid epoch x sequence)) Refused keepPartition _
-      (λ (a : PartitionAction). Preserves w (leaderDoes x a (entryWritten e) nothing w)) (keeps-leader w i x) (λ z. writes (produce-passed s p (length words) name pid epoch x sequence payload z))
+      (λ (a : PartitionAction). Preserves w (leaderDoes x a (entryWritten e) nothing w)) (same-leader-preserves w i x) (λ z. writes (produce-passed s p (length words) name pid epoch x sequence payload z))

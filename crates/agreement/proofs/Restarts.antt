@@ -61,13 +61,13 @@ use Rattle.protocol.proofs.WritesNothing.{cut-writes-nothing, opened-writes-not
 use Rattle.agreement.proofs.Invariant.{DownLog, LogSide, epochOf, AcksAgree, Invariant}
 use Rattle.agreement.proofs.LogSteps.{cut-may, cut-down, opened-may, opened-up}
 use Rattle.agreement.proofs.Acknowledgements.{fresh-waits}
-use Rattle.agreement.proofs.Preserves.{Preserves, log-of, idles, calls, unwritten-preserves}
-use Rattle.agreement.proofs.Produces.{own-at, keeps-leader}
+use Rattle.agreement.proofs.Preserves.{Preserves, log-of, carries-nothing-preserves, call-preserves, unwritten-preserves}
+use Rattle.agreement.proofs.Produces.{own-at, same-leader-preserves}
 
 -- ---- a cut
 
-pub cuts : (w : World) (i : Invariant w) (s : Coordinator) (u : w .phase ≡ up s) (n : ℕ) → (leb (s .flushed) n && leb n (logEnd s)) ≡ true → Preserves w (withPhase w (down n (s .epoch)) (logCut n))
-cuts w i s u n e =
+pub cut-preserves : (w : World) (i : Invariant w) (s : Coordinator) (u : w .phase ≡ up s) (n : ℕ) → (leb (s .flushed) n && leb n (logEnd s)) ≡ true → Preserves w (withPhase w (down n (s .epoch)) (logCut n))
+cut-preserves w i s u n e =
     let c = catalogueOf w in
     let h = w .history in
     let low = leb-true (s .flushed) n (and-left (leb (s .flushed) n) (leb n (logEnd s)) e) in
@@ -99,10 +99,10 @@ opening-valid text log n epoch first last a =
     let table : opening text log n epoch first last .state .table ≡ tableOf c (says .records) = ap (λ (o : OpenedLog). o .state .table) taken ∙ says .table in
     (rw table (records-valid c (says .records) (says .come)), ap (λ (o : OpenedLog). o .state .epoch) taken)
 
-pub reopens : (w : World) (i : Invariant w) (n before : ℕ) (u : w .phase ≡ down n before) (epoch first last : ℤ) → openingTyped epoch first last ≡ true
+pub opening-preserves : (w : World) (i : Invariant w) (n before : ℕ) (u : w .phase ≡ down n before) (epoch first last : ℤ) → openingTyped epoch first last ≡ true
     → (eqb (openReply (opening (w .text) (w .log) n epoch first last .answer) .number) 0 && leZ (pos before) epoch) ≡ true
     → Preserves w (withPhase w (up (opening (w .text) (w .log) n epoch first last .state)) (logOpened epoch))
-reopens w i n before u epoch first last typed e =
+opening-preserves w i n before u epoch first last typed e =
     let c = catalogueOf w in
     let h = w .history in
     let accepted : openReply (opening (w .text) (w .log) n epoch first last .answer) .number ≡ 0 = eqb-true _ 0
@@ -137,11 +137,11 @@ module _ (w : World) (i : Invariant w) (s : Coordinator) (u : w .phase ≡ up s)
   not-admitted = written-admits (catalogueOf w) (w .log) s (contents (recordsOf (w .history))) (log-of w i s u .written) n ∙ ne-eqb n (length (w .log)) d
 
   same-state : Preserves w (coordinatorElsewhere keep s w)
-  same-state = subst (λ (p : Phase). Preserves w (record { text = w .text; log = w .log; phase = p; leaders = w .leaders; carrying = nothing; history = w .history })) u (idles w i)
+  same-state = subst (λ (p : Phase). Preserves w (record { text = w .text; log = w .log; phase = p; leaders = w .leaders; carrying = nothing; history = w .history })) u (carries-nothing-preserves w i)
 
-  pub calls-elsewhere : (c : CoordinatorCall) → Preserves w (coordinatorElsewhere (actionOf c s n) s w)
-  calls-elsewhere =
-      elsewhere-cases s n not-admitted (λ (a : Action). Preserves w (coordinatorElsewhere a s w)) same-state (λ m. subst (Preserves w) (sym (flush-elsewhere m s w)) (calls w i s u (flushCall m) refl refl))
+  pub call-elsewhere-preserves : (c : CoordinatorCall) → Preserves w (coordinatorElsewhere (actionOf c s n) s w)
+  call-elsewhere-preserves =
+      elsewhere-cases s n not-admitted (λ (a : Action). Preserves w (coordinatorElsewhere a s w)) same-state (λ m. subst (Preserves w) (sym (flush-elsewhere m s w)) (call-preserves w i s u (flushCall m) refl refl))
 
 module _ (w : World) (i : Invariant w) (x n : ℕ) (d : n ≡ length (leaderAt w x .words) → ⊥) where
   words-not-admitted : partitionAdmits (leaderAt w x .partition) n ≡ false
@@ -150,19 +150,19 @@ module _ (w : World) (i : Invariant w) (x n : ℕ) (d : n ≡ length (leaderAt w
       admits-length (leaderAt w x .partition) (o .reserved) n ∙ ne-eqb n (leaderAt w x .partition .room) (λ z. d (z ∙ sym (o .room)))
 
   same-partition : Preserves w (withPartition w x (leaderAt w x .partition) nothing)
-  same-partition = keeps-leader w i x
+  same-partition = same-leader-preserves w i x
 
-  pub produces-elsewhere : (s : Coordinator) (name : List ℕ) (pid epoch : ℤ) (position : ℕ) (sequence : ℤ) (payload : ℕ)
+  pub produce-elsewhere-preserves : (s : Coordinator) (name : List ℕ) (pid epoch : ℤ) (position : ℕ) (sequence : ℤ) (payload : ℕ)
       → Preserves w (withPartition w x (partitionAfter (produce s (leaderAt w x .partition) n name pid epoch position sequence payload .action) (leaderAt w x .partition)) nothing)
   unfolding produce
-  produces-elsewhere s name pid epoch position sequence payload =
+  produce-elsewhere-preserves s name pid epoch position sequence payload =
       unless-does (firstRefusal (produceTests s (leaderAt w x .partition) n name pid epoch position sequence)) ProduceRefused keepPartition _
       (λ (a : PartitionAction). Preserves w (withPartition w x (partitionAfter a (leaderAt w x .partition)) nothing)) same-partition
       (λ z. not-both words-not-admitted (produce-passed s (leaderAt w x .partition) n name pid epoch position sequence payload z .admitted))
 
-  pub delivers-elsewhere : (place : ℕ) (pid epoch : ℤ) (verdict : ℕ) (coordinator : ℤ) (k : ℕ) (o : Order)
+  pub marker-elsewhere-preserves : (place : ℕ) (pid epoch : ℤ) (verdict : ℕ) (coordinator : ℤ) (k : ℕ) (o : Order)
       → Preserves w (withPartition w x (partitionAfter (marker (leaderAt w x .partition) n place pid epoch verdict coordinator .action) (leaderAt w x .partition)) (onceDone (reply (marker (leaderAt w x .partition) n place pid epoch verdict coordinator .answer)) k o))
-  delivers-elsewhere place pid epoch verdict coordinator k o =
+  marker-elsewhere-preserves place pid epoch verdict coordinator k o =
       let refused : firstRefusal (markerTests (leaderAt w x .partition) n place pid epoch verdict coordinator) ≡ 0 → ⊥ =
       λ z. not-both words-not-admitted (marker-passed (leaderAt w x .partition) n place pid epoch verdict coordinator z .admitted) in
       rw (marker-refused (leaderAt w x .partition) n place pid epoch verdict coordinator refused, ne-eqb _ 0 refused) same-partition

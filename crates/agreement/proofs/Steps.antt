@@ -26,12 +26,12 @@ use Rattle.runs.proofs.Admitted.{step-own}
 use Rattle.runs.proofs.Cases.{step-cases, while-up-cases, lent-cases, leader-cases, deliverable-cases, acknowledgeable-cases, read-cases, cut-cases, reopened-cases}
 use Rattle.protocol.proofs.Extends.{Extends, still, extends-then}
 use Rattle.agreement.proofs.Invariant.{Invariant}
-use Rattle.agreement.proofs.Preserves.{Preserves, same, idles, calls, carrying-of}
-use Rattle.agreement.proofs.Orders.{orders}
-use Rattle.agreement.proofs.Produces.{keeps-leader, produces-own}
-use Rattle.agreement.proofs.Delivers.{delivers-own}
-use Rattle.agreement.proofs.Acknowledges.{acknowledges-own}
-use Rattle.agreement.proofs.Restarts.{cuts, reopens, calls-elsewhere, produces-elsewhere, delivers-elsewhere}
+use Rattle.agreement.proofs.Preserves.{Preserves, same, carries-nothing-preserves, call-preserves, carrying-of}
+use Rattle.agreement.proofs.Orders.{order-preserves}
+use Rattle.agreement.proofs.Produces.{same-leader-preserves, produce-preserves}
+use Rattle.agreement.proofs.Delivers.{marker-preserves}
+use Rattle.agreement.proofs.Acknowledges.{ack-preserves}
+use Rattle.agreement.proofs.Restarts.{cut-preserves, opening-preserves, call-elsewhere-preserves, produce-elsewhere-preserves, marker-elsewhere-preserves}
 use Rattle.agreement.proofs.Start.{start-invariant}
 
 module _ (w : World) (i : Invariant w) where
@@ -40,7 +40,7 @@ module _ (w : World) (i : Invariant w) where
       → let x = cond b position other in
       Preserves w (leaderDoes x (produce s (leaderAt w x .partition) (length (leaderAt w x .words)) name pid epoch position sequence payload .action)
       (entryWritten (record { name = padded nameMax name; pid = pid; epoch = epoch; position = x; sequence = sequence; payload = payload; offset = leaderAt w x .partition .end })) nothing w)
-  produces s u other name pid epoch position sequence payload true e = produces-own w i s u name pid epoch position sequence payload
+  produces s u other name pid epoch position sequence payload true e = produce-preserves w i s u name pid epoch position sequence payload
   produces s u other name pid epoch position sequence payload false e = outside
     where
       outside : Preserves w (leaderDoes other (produce s (leaderAt w other .partition) (length (leaderAt w other .words)) name pid epoch position sequence payload .action)
@@ -50,36 +50,36 @@ module _ (w : World) (i : Invariant w) where
           unless-does (firstRefusal (produceTests s (leaderAt w other .partition) (length (leaderAt w other .words)) name pid epoch position sequence)) Refused keepPartition _
           (λ (a : PartitionAction). Preserves w (leaderDoes other a (entryWritten
           (record { name = padded nameMax name; pid = pid; epoch = epoch; position = other; sequence = sequence; payload = payload; offset = leaderAt w other .partition .end })) nothing w))
-          (keeps-leader w i other) (λ z. not-both e (produce-passed s (leaderAt w other .partition) (length (leaderAt w other .words)) name pid epoch position sequence payload z .listed))
+          (same-leader-preserves w i other) (λ z. not-both e (produce-passed s (leaderAt w other .partition) (length (leaderAt w other .words)) name pid epoch position sequence payload z .listed))
 
   next-preserves : (x : Item) → inLists x ≡ true → Preserves w (next x w)
   next-preserves (call lent c) t =
       while-up-cases (Preserves w) w (same w i) _ (λ s u. lent-cases (Preserves w) w (same w i) lent (actionOf c s) s
-      (λ o. calls w i s u c (and-left (callTyped c) (not (isAck c)) t) (not-true (isAck c) (and-right (callTyped c) (not (isAck c)) t))) (λ n d. calls-elsewhere w i s u n d c))
-  next-preserves (callOrder set) t = while-up-cases (Preserves w) w (same w i) _ (λ s u. orders w i s u set)
+      (λ o. call-preserves w i s u c (and-left (callTyped c) (not (isAck c)) t) (not-true (isAck c) (and-right (callTyped c) (not (isAck c)) t))) (λ n d. call-elsewhere-preserves w i s u n d c))
+  next-preserves (callOrder set) t = while-up-cases (Preserves w) w (same w i) _ (λ s u. order-preserves w i s u set)
   next-preserves (callProduce lent other name pid epoch position sequence payload) t =
       while-up-cases (Preserves w) w (same w i) _
       (λ s u. leader-cases (Preserves w) w (same w i) lent _ _ _ _ (λ o. produces s u other name pid epoch position sequence payload (member (s .catalogue .all) position) refl)
-      (λ n d. produces-elsewhere w i _ n d s name pid epoch position sequence payload))
-  next-preserves (callRead lent x from out) t = while-up-cases (Preserves w) w (same w i) _ (λ s u. read-cases (Preserves w) w (same w i) lent x (idles w i))
+      (λ n d. produce-elsewhere-preserves w i _ n d s name pid epoch position sequence payload))
+  next-preserves (callRead lent x from out) t = while-up-cases (Preserves w) w (same w i) _ (λ s u. read-cases (Preserves w) w (same w i) lent x (carries-nothing-preserves w i))
   next-preserves (deliver lent n) t =
       while-up-cases (Preserves w) w (same w i) _
       (λ s u. deliverable-cases (Preserves w) w (same w i) n _
-      (λ o e. leader-cases (Preserves w) w (same w i) lent (o .position) _ _ _ (λ l. delivers-own w i s u o (carrying-of w i s u (toDeliver n o) e) n)
-      (λ m d. delivers-elsewhere w i (o .position) m d (o .place) (o .pid) (o .epoch) (o .verdict) (o .coordinator) n o)))
+      (λ o e. leader-cases (Preserves w) w (same w i) lent (o .position) _ _ _ (λ l. marker-preserves w i s u o (carrying-of w i s u (toDeliver n o) e) n)
+      (λ m d. marker-elsewhere-preserves w i (o .position) m d (o .place) (o .pid) (o .epoch) (o .verdict) (o .coordinator) n o)))
   next-preserves (acknowledge own n) t =
       while-up-cases (Preserves w) w (same w i) _
-      (λ s u. acknowledgeable-cases (Preserves w) w (same w i) n _ (λ o e. let (way, none-open) = carrying-of w i s u (toAcknowledge n o) e in acknowledges-own w i s u o way none-open))
+      (λ s u. acknowledgeable-cases (Preserves w) w (same w i) n _ (λ o e. let (way, none-open) = carrying-of w i s u (toAcknowledge n o) e in ack-preserves w i s u o way none-open))
   next-preserves (acknowledge (another slice) n) t =
       while-up-cases (Preserves w) w (same w i) _
       (λ s u. acknowledgeable-cases (Preserves w) w (same w i) n _
       (λ o e. lent-cases (Preserves w) w (same w i) (another slice) (actionOf (ackCall (o .place) (o .pid) (o .epoch) (o .position)) s) s (λ z. absurd (not-own slice z))
-      (λ m d. calls-elsewhere w i s u m d (ackCall (o .place) (o .pid) (o .epoch) (o .position)))))
+      (λ m d. call-elsewhere-preserves w i s u m d (ackCall (o .place) (o .pid) (o .epoch) (o .position)))))
     where
       not-own : (slice : List ℕ) → another slice ≡ own → ⊥
       not-own slice z = let y : _≡_ {A = ℕ} 0 1 = cc in omega arith
-  next-preserves (cut n) t = while-up-cases (Preserves w) w (same w i) _ (λ s u. cut-cases (Preserves w) w (same w i) n s (cuts w i s u n))
-  next-preserves (reopen epoch first last) t = reopened-cases (Preserves w) w (same w i) epoch first last (λ n before u e. reopens w i n before u epoch first last t e)
+  next-preserves (cut n) t = while-up-cases (Preserves w) w (same w i) _ (λ s u. cut-cases (Preserves w) w (same w i) n s (cut-preserves w i s u n))
+  next-preserves (reopen epoch first last) t = reopened-cases (Preserves w) w (same w i) epoch first last (λ n before u e. opening-preserves w i n before u epoch first last t e)
 
   pub step-preserves : (x : Item) → Preserves w (step x w)
   step-preserves x = step-cases (Preserves w) x w (same w i) (next-preserves x)
