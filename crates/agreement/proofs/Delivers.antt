@@ -222,11 +222,16 @@ module _ (w : World) (i : Invariant w) (s : Coordinator) (u : w .phase ≡ up s)
         leader-preserves w i x below _ (toAcknowledge n o) h still (i .offsets) (i .log-side) (i .acks)
         (record {
           words = i .leaders x .words;
-          rows = rows-noted c h (i .of-history) o r (prepare-of .there) f k0 (prepare-of .place) x p (i .leaders x .rows) refl (partitionAfter (note (toNat (o .coordinator)) k0 q) p) q here others q-shut q-pid q-epoch (omega arith) d;
+          rows = rows-noted c h (i .of-history) o r (prepare-of .there) f k0 (prepare-of .place) x p (i .leaders x .rows) refl
+              (partitionAfter (note (toNat (o .coordinator)) k0 q) p) q here others q-shut q-pid q-epoch (omega arith) d;
           coordinator = subst (λ (y : Phase). toNat (o .coordinator) ≤ epochOf y) (sym u) (omega (arith, coordinator-is));
         })
         (λ y m. i .leaders y)
-        (subst (λ (y : Phase). CarryingSide c h y (toAcknowledge n o)) (sym u) (way, none-open-unless c h (i .of-history) o r (prepare-of .there) f k0 (prepare-of .place) x p (i .leaders x .rows) refl (λ s y. not-both d s)))
+        (subst (λ (y : Phase). CarryingSide c h y (toAcknowledge n o)) (sym u) (
+          way,
+          none-open-unless c h (i .of-history) o r (prepare-of .there) f k0 (prepare-of .place) x p
+              (i .leaders x .rows) refl (λ s y. not-both d s),
+        ))
 
     -- an open one: the marker is written
     closes : producerAt p k0 .ongoing ≡ true → (n : ℕ) → Preserves w (leaderDoes x (closeTransaction k0 (producerAt p k0) (toNat (o .epoch)) (o .verdict) (toNat (o .coordinator))) (markerWritten o) (toAcknowledge n o) w)
@@ -279,7 +284,8 @@ module _ (w : World) (i : Invariant w) (s : Coordinator) (u : w .phase ≡ up s)
         none-left : NoneOpen c (markerWritten o ∷ h) (recordsOf (markerWritten o ∷ h)) x k0
         none-left =
             rw (marker-records h o .records, same-entries (markerWritten o) h refl)
-            (in-each _ (entriesOf h) (λ y j a b g. marked-none c h (i .of-history) o r (prepare-of .there) f k0 (prepare-of .place) k (omega arith) y j a (ap (λ (l : List Logged). placeIn c l (y .what .name)) view ∙ g) b))
+            (in-each _ (entriesOf h) (λ y j a b g. marked-none c h (i .of-history) o r (prepare-of .there) f k0 (prepare-of .place) k (omega arith) y j a
+            (ap (λ (l : List Logged). placeIn c l (y .what .name)) view ∙ g) b))
 
   pub marker-preserves : (n : ℕ) → Preserves w (leaderDoes x (marker p (length words) k0 (o .pid) (o .epoch) (o .verdict) (o .coordinator) .action) (markerWritten o) (onceDone (reply (marker p (length words) k0 (o .pid) (o .epoch) (o .verdict) (o .coordinator) .answer)) n o) w)
   marker-preserves n =

@@ -70,7 +70,8 @@ module _ (c : Catalogue) (h : History) (t : HistoryInvariant c h) where
               (λ (n : ℕ) (d : Entry). d .what .position ≡ x → n ≡ 0 → Owns (producerAt p (placeIn c (endingBy (v .bytes) (recordsOf h)) (d .what .name))) d) (a .entry-row (v .bytes) (v .low)));
           row-entry = λ k b. let v = q .earlier-cut k b in
               rw (v .same, same-entries e h (q .no-entry)) (λ j o n. a .row-entry (v .bytes) (v .low) j o
-              (under-back h e (λ d i. q .no-kind (d .what .position) (toNat (d .what .pid))) (λ (n : ℕ) (d : Entry). d .what .position ≡ x → n ≡ 0 → placeIn c (endingBy (v .bytes) (recordsOf h)) (d .what .name) ≡ j → ⊥) n));
+              (under-back h e (λ d i. q .no-kind (d .what .position) (toNat (d .what .pid)))
+              (λ (n : ℕ) (d : Entry). d .what .position ≡ x → n ≡ 0 → placeIn c (endingBy (v .bytes) (recordsOf h)) (d .what .name) ≡ j → ⊥) n));
           epochs = λ k b. let v = q .earlier-cut k b in rw (v .same) (a .epochs (v .bytes) (v .low));
           firsts = a .firsts;
           pids = λ k b. let v = q .earlier-cut k b in rw (v .same) (a .pids (v .bytes) (v .low));

@@ -291,7 +291,8 @@ latest-left v j s u p stands is-flushed prepares e none-left =
     let h = v .history in
     let k = placeOf (s .table) (p .content .name) in
     let row-is = row-of v j s u (p .content .name) p e in
-    let left : rowLeft (s .flushed) (rowAt (s .table) k) ≡ count (outstanding (rowAt (s .table) k)) = rw (row-prepares v j s u k p stands prepares row-is, row-flushed v j s u k p stands prepares row-is is-flushed) refl in
+    let left : rowLeft (s .flushed) (rowAt (s .table) k) ≡ count (outstanding (rowAt (s .table) k)) = rw
+    (row-prepares v j s u k p stands prepares row-is, row-flushed v j s u k p stands prepares row-is is-flushed) refl in
     let inside : k < places = place-inside v j s u (p .content .name) p e in
     let most = sum-part (rowLeft (s .flushed)) freeRow (s .table .rows) k (omega (arith, rows-of v j s u)) in
     some-outstanding v j s u k p stands prepares row-is (omega arith)

@@ -165,7 +165,8 @@ module _ (p : Logged) (prepares : isPrepare (p .content .status) ≡ true) (n : 
       row-name = ap (λ (y : Row). y .name) (row-is w i s u o way)
 
       own-left : o .for ≡ p .number → leftOf p (up s) ≡ count (outstanding row)
-      own-left e = ap (λ (k : ℕ). count (outstanding (rowAt (s .table) k))) (place-of w i s u (p .content .name) ∙ ap (λ (y : Logged). placeIn c (recordsOf h) (y .content .name)) (sym (same-prepare e)) ∙ prepare-of w i s u o way .place)
+      own-left e = ap (λ (k : ℕ). count (outstanding (rowAt (s .table) k))) (place-of w i s u (p .content .name) ∙ ap (λ (y : Logged). placeIn c (recordsOf h) (y .content .name)) (sym (same-prepare e))
+          ∙ prepare-of w i s u o way .place)
 
       inside : o .place < length (s .table .rows)
       inside = let b = place-below w i s u o way in omega (arith, rows-of w i s u)
