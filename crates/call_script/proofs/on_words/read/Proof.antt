@@ -1,0 +1,42 @@
+-- `call_script::on_words::read` meets its contract.
+use Rattle.io.proofs.Counting.{front}
+use borrow.Author.Needs.{needs}
+use Rattle.call_script.proofs.on_words.read.Statement.{statement}
+use Rattle.call_script.proofs.on_words.read.Tie as tie
+
+place-requires : tie.Need-place-requires
+place-requires c κs = search needs
+
+unknown-requires : tie.Need-unknown-requires
+unknown-requires c κs = search needs
+
+returns : tie.Need-returns
+returns c = search needs
+
+slice-relend-prefix-copy : tie.Need-slice-relend-prefix-copy
+slice-relend-prefix-copy c = search needs
+
+slice-aggregate-copy : tie.Need-slice-aggregate-copy
+slice-aggregate-copy c = front _ _ (slice-relend-prefix-copy (c .before))
+
+copy-requires : tie.Need-copy-requires
+copy-requires c κs = search needs
+
+same-length : tie.Need-same-length
+same-length c = search needs
+
+returns-2 : tie.Need-returns-2
+returns-2 c = search needs
+
+pub read-spec : {M : Type 1} → statement M
+read-spec =
+    tie.close
+    (tie.spec
+    place-requires
+    unknown-requires
+    returns
+    slice-relend-prefix-copy
+    slice-aggregate-copy
+    copy-requires
+    same-length
+    returns-2)
