@@ -1,4 +1,5 @@
 // A program that makes the calls of a script, one for each line, on slices of its stores, and writes their answers; tools/calls.py says how a line is written.
+mod input;
 mod on_log;
 mod on_words;
 mod show;
@@ -6,10 +7,7 @@ mod stores;
 
 use call_lines::Kind;
 use coordinator::Coordinator;
-use libc::STDIN_FILENO;
-use lines::Cursor;
-use lines::Last;
-use lines::Next;
+use input::Step;
 use partition::Partition;
 ghost use Prim.Native.Nat.{_<_};
 
@@ -20,18 +18,17 @@ const PARTITIONS: usize = 3;
 // The words of each partition.
 const WORDS_ROOM: usize = 256;
 
-const OUT_ROOM: usize = 64;
-
 const TEXT_ROOM: usize = 256;
 
 // A longer line is none.
 const LINE_ROOM: usize = 32768;
 
-// The states, and the length of the catalogue's text.
+// The states of the coordinator and the partitions, and the catalogue's text: the first bytes of an array.
 struct State {
     coordinator: Coordinator,
     partitions: [Partition; PARTITIONS],
-    text: usize,
+    text: [u8; TEXT_ROOM],
+    length: usize,
 }
 
 fn with_coordinator(s: State, c: Coordinator) -> State {
@@ -40,45 +37,56 @@ fn with_coordinator(s: State, c: Coordinator) -> State {
     u
 }
 
-fn with_partition(s: State, index: usize, p: Partition) -> State {
+// Only for callers that have an index.
+fn with_partition(s: State, index: usize, p: Partition) -> State
+    requires { ⌜ index < 3 ⌝ }
+{
     let mut u = s;
-    if index < PARTITIONS {
-        u.partitions[index] = p;
-    }
+    u.partitions[index] = p;
     u
 }
 
-fn with_text(s: State, length: usize) -> State {
+// A line with another text of the catalogue.
+fn set_text(s: State, line: &[u8]) -> State {
+    let mut text = s.text;
+    let length = stores::catalogue(s.length, line, &mut text);
     let mut u = s;
-    u.text = length;
+    u.text = text;
+    u.length = length;
     u
+}
+
+// A line with a call of the coordinator, which an opening gives the first n bytes of the text.
+fn call_with_text(
+    c: Coordinator,
+    kind: Kind,
+    line: &[u8],
+    text: &[u8],
+    n: usize,
+    log: &mut [u8],
+) -> Coordinator {
+    if text.len() < n {
+        return c;
+    }
+    on_log::perform(c, kind, line, &text[..n], log)
 }
 
 // A line with a call of the coordinator.
-fn call_coordinator(s: State, kind: Kind, line: &[u8], text: &[u8], log: &mut [u8]) -> State {
-    let n = s.text;
-    if text.len() < n {
-        return s;
-    }
+fn call_coordinator(s: State, kind: Kind, line: &[u8], log: &mut [u8]) -> State {
+    let text = s.text;
     let c = s.coordinator;
-    with_coordinator(s, on_log::perform(c, kind, line, &text[..n], log))
+    let made = call_with_text(c, kind, line, &text, s.length, log);
+    with_coordinator(s, made)
 }
 
-// A line with a call of a partition, which is lent the first words of its own.
-fn call_lent(
-    s: State,
-    kind: Kind,
-    line: &[u8],
-    index: usize,
-    words: &mut [u64],
-    out: &mut [u64],
-) -> State
+// A line with a call of a partition, which is lent these of its words. Only for callers that have an index.
+fn call_lent(s: State, kind: Kind, line: &[u8], index: usize, words: &mut [u64]) -> State
     requires { ⌜ index < 3 ⌝ }
 {
     let p = s.partitions[index];
     match kind {
         Kind::Read => {
-            on_words::read(p, line, words, out);
+            on_words::read(p, line, words);
             s
         }
         Kind::Words => {
@@ -101,7 +109,7 @@ fn lent_words(kind: Kind, line: &[u8]) -> usize {
 }
 
 // A line with the index of a partition.
-fn call_partition(s: State, kind: Kind, line: &[u8], words: &mut [u64], out: &mut [u64]) -> State {
+fn call_partition(s: State, kind: Kind, line: &[u8], words: &mut [u64]) -> State {
     let index = call_lines::place(line, 1);
     let lent = lent_words(kind, line);
     if PARTITIONS <= index {
@@ -117,51 +125,32 @@ fn call_partition(s: State, kind: Kind, line: &[u8], words: &mut [u64], out: &mu
     if words.len() < end {
         return s;
     }
-    call_lent(s, kind, line, index, &mut words[start..end], out)
+    call_lent(s, kind, line, index, &mut words[start..end])
 }
 
-// Copies a blank line or a comment.
-fn copy(line: &[u8]) {
-    show::bytes(line);
-    show::end_line();
+// A line that changes no state.
+fn show_line(kind: Kind, line: &[u8], log: &mut [u8]) {
+    match kind {
+        Kind::Blank => show::whole(line),
+        Kind::Bytes => stores::bytes(line, log),
+        Kind::Log => stores::show_log(line, log),
+        _ => show::unknown(),
+    }
 }
 
 // Performs a line and writes its answer.
-fn perform(
-    s: State,
-    line: &[u8],
-    text: &mut [u8],
-    log: &mut [u8],
-    words: &mut [u64],
-    out: &mut [u64],
-) -> State {
+fn perform(s: State, line: &[u8], log: &mut [u8], words: &mut [u64]) -> State {
     let kind = call_lines::kind_of(line);
     match kind {
-        Kind::Blank => {
-            copy(line);
+        Kind::Blank | Kind::Unknown | Kind::Bytes | Kind::Log => {
+            show_line(kind, line, log);
             s
         }
-        Kind::Unknown => {
-            show::unknown();
-            s
+        Kind::Catalogue => set_text(s, line),
+        Kind::Words | Kind::Partition | Kind::Produce | Kind::Marker | Kind::Read => {
+            call_partition(s, kind, line, words)
         }
-        Kind::Catalogue => with_text(s, stores::catalogue(s.text, line, text)),
-        Kind::Bytes => {
-            stores::bytes(line, log);
-            s
-        }
-        Kind::Log => {
-            stores::show_log(line, log);
-            s
-        }
-        Kind::Words | Kind::Partition | Kind::Produce | Kind::Marker | Kind::Read => call_partition(
-            s,
-            kind,
-            line,
-            words,
-            out,
-        ),
-        _ => call_coordinator(s, kind, line, text, log),
+        _ => call_coordinator(s, kind, line, log),
     }
 }
 
@@ -171,10 +160,8 @@ fn perform_part(
     buffer: &[u8],
     from: usize,
     len: usize,
-    text: &mut [u8],
     log: &mut [u8],
     words: &mut [u64],
-    out: &mut [u64],
 ) -> State {
     if buffer.len() < from {
         return s;
@@ -183,212 +170,57 @@ fn perform_part(
         return s;
     }
     let end = from + len;
-    perform(s, &buffer[from..end], text, log, words, out)
+    perform(s, &buffer[from..end], log, words)
 }
 
-// The state after some lines, and where the buffer is read on.
-struct Performed {
-    state: State,
-    cursor: Cursor,
-    ended: bool,
-}
-
-// Performs the next line of the buffer; the input has ended when there is none.
-fn perform_next(
-    s: State,
-    buffer: &[u8],
-    cursor: Cursor,
-    text: &mut [u8],
-    log: &mut [u8],
-    words: &mut [u64],
-    out: &mut [u64],
-) -> Performed {
-    match lines::next_line(buffer, cursor) {
-        Next::Line { from, len, rest } => Performed {
-            state: perform_part(s, buffer, from, len, text, log, words, out),
-            cursor: rest,
-            ended: false,
-        },
-        Next::Long { rest } => {
-            show::unknown();
-            Performed {
-                state: s,
-                cursor: rest,
-                ended: false,
-            }
-        }
-        Next::More => Performed {
-            state: s,
-            cursor,
-            ended: true,
-        },
-    }
-}
-
-// Performs the lines that end in the buffer. Each has a line feed, so there are at most as many as it has bytes.
-fn perform_lines(
-    s: State,
-    buffer: &[u8],
-    start: Cursor,
-    text: &mut [u8],
-    log: &mut [u8],
-    words: &mut [u64],
-    out: &mut [u64],
-) -> Performed {
-    let mut state = s;
-    let mut cursor = start;
-    let mut turns = buffer.len();
-    while 0 < turns {
-        let made = perform_next(state, buffer, cursor, text, log, words, out);
-        state = made.state;
-        cursor = made.cursor;
-        if made.ended {
-            return Performed {
-                state,
-                cursor,
-                ended: false,
-            };
-        }
-        turns -= 1;
-    }
-    Performed {
-        state,
-        cursor,
-        ended: false,
-    }
-}
-
-// Performs what is left at the end.
-fn perform_last(
-    s: State,
-    buffer: &[u8],
-    cursor: Cursor,
-    text: &mut [u8],
-    log: &mut [u8],
-    words: &mut [u64],
-    out: &mut [u64],
-) -> State {
-    match lines::last_line(buffer, cursor) {
-        Last::Line { from, len } => perform_part(s, buffer, from, len, text, log, words, out),
-        Last::Long => {
+// Performs what was read.
+fn perform_step(s: State, buffer: &[u8], step: Step, log: &mut [u8], words: &mut [u64]) -> State {
+    match step {
+        Step::Line { from, len, rest: _ } => perform_part(s, buffer, from, len, log, words),
+        Step::Long { rest: _ } => {
             show::unknown();
             s
         }
-        Last::Nothing => s,
+        _ => s,
     }
 }
 
-// Reads a part behind what is kept; the same cursor if there is no more.
-fn read_part(buffer: &mut [u8], kept: Cursor) -> Cursor {
-    let end = kept.end;
-    if buffer.len() < end {
-        return kept;
-    }
-    let got = libc::read(STDIN_FILENO, &mut buffer[end..]);
-    let n = io::count(got, &buffer[end..]);
-    if buffer.len() - end < n {
-        return kept;
-    }
-    Cursor {
-        from: 0,
-        end: end + n,
-        skipping: kept.skipping,
-    }
-}
-
-// Where the buffer is read on, and whether the input has ended.
-struct Refilled {
-    cursor: Cursor,
-    ended: bool,
-}
-
-// Reads a part behind the line that is not yet ended.
-fn refill(buffer: &mut [u8], cursor: Cursor) -> Refilled {
-    let kept = lines::keep(buffer, cursor);
-    let got = read_part(buffer, kept);
-    Refilled {
-        cursor: got,
-        ended: got.end == kept.end,
-    }
-}
-
-// Reads a part and performs the lines that end in it; at the end of the input, what is left.
-fn perform_read(
-    s: State,
-    cursor: Cursor,
-    buffer: &mut [u8],
-    text: &mut [u8],
-    log: &mut [u8],
-    words: &mut [u64],
-    out: &mut [u64],
-) -> Performed {
-    let got = refill(buffer, cursor);
-    let start = got.cursor;
-    if got.ended {
-        let state = perform_last(s, buffer, start, text, log, words, out);
-        return Performed {
-            state,
-            cursor: start,
-            ended: true,
-        };
-    }
-    perform_lines(s, buffer, start, text, log, words, out)
-}
-
-// An opening of the empty log, and empty partitions.
-fn opened(text: &[u8], log: &[u8]) -> State {
-    let made = calls::opening(text, log, 0, 1, 1000, 1999);
+// An opening of the empty log with the catalogue of document 01's listing, and empty partitions.
+fn opened(log: &[u8]) -> State {
+    let first = b"scan\t2\ncert\t1\n";
+    let mut text = [0u8; TEXT_ROOM];
+    numbers::copy(&mut text, 0, first);
+    let made = calls::opening(first, log, 0, 1, 1000, 1999);
     let coordinator = made.state;
     let empty = calls::open_partition(WORDS_ROOM);
     let partitions = [empty; PARTITIONS];
     State {
         coordinator,
         partitions,
-        text: text.len(),
+        text,
+        length: first.len(),
     }
 }
 
 // Reads and performs until there is no more.
-fn run(
-    first: State,
-    buffer: &mut [u8],
-    text: &mut [u8],
-    log: &mut [u8],
-    words: &mut [u64],
-    out: &mut [u64],
-) {
-    let mut state = first;
-    let mut cursor = Cursor {
-        from: 0,
-        end: 0,
-        skipping: false,
-    };
+fn run(buffer: &mut [u8], log: &mut [u8], words: &mut [u64]) {
+    let mut state = opened(log);
+    let mut cursor = input::start();
     let mut turns = u64::MAX;
     while 0 < turns {
-        let made = perform_read(state, cursor, buffer, text, log, words, out);
-        if made.ended {
+        let step = input::next(buffer, cursor);
+        if input::is_end(step) {
             return;
         }
-        state = made.state;
-        cursor = made.cursor;
+        state = perform_step(state, buffer, step, log, words);
+        cursor = input::behind(step);
         turns -= 1;
     }
 }
 
 fn main() {
     let mut buffer = [0u8; LINE_ROOM];
-    let mut text = [0u8; TEXT_ROOM];
     let mut log = [0u8; LOG_ROOM];
     let mut words = [0u64; PARTITIONS * WORDS_ROOM];
-    let mut out = [0u64; OUT_ROOM];
-    let first = b"scan\t2\ncert\t1\n";
-    numbers::copy(&mut text, 0, first);
-    run(
-        opened(first, &log),
-        &mut buffer,
-        &mut text,
-        &mut log,
-        &mut words,
-        &mut out,
-    );
+    run(&mut buffer, &mut log, &mut words);
 }

@@ -7,6 +7,8 @@ use partition::Partition;
 // What the words of out hold before a read.
 const UNTOUCHED: u64 = 7777;
 
+const OUT_ROOM: usize = 64;
+
 // `produce INDEX LENT NAME PID EPOCH POSITION SEQUENCE PAYLOAD`
 fn produce(c: Coordinator, p: Partition, line: &[u8], words: &mut [u64]) -> Partition {
     let name = call_lines::field(line, 3);
@@ -64,29 +66,20 @@ pub fn perform(
     state
 }
 
-// Makes the words of out known, so that a read that does not touch them is seen.
-fn fill(out: &mut [u64]) {
-    let mut i: usize = 0;
-    while i < out.len() {
-        out[i] = UNTOUCHED;
-        i += 1;
-    }
-}
-
 // `read INDEX LENT FROM ROOM`, into these words of out.
 fn copy(p: Partition, line: &[u8], words: &[u64], out: &mut [u64]) {
     show::word(line);
-    fill(out);
     show::copied(calls::read(p, words, call_lines::place(line, 3), out));
     show::partition(p);
     show::words(out);
     show::end_line();
 }
 
-// Performs a read and writes its answer and all words of out.
-pub fn read(p: Partition, line: &[u8], words: &[u64], out: &mut [u64]) {
+// Performs a read and writes its answer and all words of out, so that those that it does not touch are seen.
+pub fn read(p: Partition, line: &[u8], words: &[u64]) {
+    let mut out = [UNTOUCHED; OUT_ROOM];
     let room = call_lines::place(line, 4);
-    if out.len() < room {
+    if OUT_ROOM < room {
         show::unknown();
         return;
     }

@@ -23,6 +23,12 @@ pub fn end_line() {
     bytes(b"\n");
 }
 
+// A line as it stands.
+pub fn whole(line: &[u8]) {
+    bytes(line);
+    end_line();
+}
+
 // A line that is none.
 pub fn unknown() {
     bytes(b"?\n");

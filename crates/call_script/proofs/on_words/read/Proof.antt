@@ -13,17 +13,14 @@ unknown-requires c κs = search needs
 returns : tie.Need-returns
 returns c = search needs
 
-slice-relend-prefix-copy : tie.Need-slice-relend-prefix-copy
-slice-relend-prefix-copy c = search needs
+array-borrow-prefix-out : tie.Need-array-borrow-prefix-out
+array-borrow-prefix-out c = search needs
 
 slice-aggregate-copy : tie.Need-slice-aggregate-copy
-slice-aggregate-copy c = front _ _ (slice-relend-prefix-copy (c .before))
+slice-aggregate-copy c = front _ _ (array-borrow-prefix-out (c .before))
 
 copy-requires : tie.Need-copy-requires
 copy-requires c κs = search needs
-
-same-length : tie.Need-same-length
-same-length c = search needs
 
 returns-2 : tie.Need-returns-2
 returns-2 c = search needs
@@ -35,8 +32,7 @@ read-spec =
     place-requires
     unknown-requires
     returns
-    slice-relend-prefix-copy
+    array-borrow-prefix-out
     slice-aggregate-copy
     copy-requires
-    same-length
     returns-2)
