@@ -288,11 +288,8 @@ fn store_kind(line: &[u8]) -> Kind {
     partition_kind(line)
 }
 
-// A line with a call of the coordinator. The first field says how many bytes are lent, but for flush and order.
-fn coordinator_kind(line: &[u8]) -> Kind {
-    if is_line(line, b"open", b"uuill") {
-        return Kind::Open;
-    }
+// A line with a call of a producer, or with Ack.
+fn producer_kind(line: &[u8]) -> Kind {
     if is_line(line, b"init", b"util") {
         return Kind::Init;
     }
@@ -301,6 +298,17 @@ fn coordinator_kind(line: &[u8]) -> Kind {
     }
     if is_line(line, b"end", b"utlsul") {
         return Kind::End;
+    }
+    if is_line(line, b"ack", b"uulsu") {
+        return Kind::Ack;
+    }
+    store_kind(line)
+}
+
+// A line with a call of the coordinator. The first field says how many bytes are lent, but for flush and order.
+fn coordinator_kind(line: &[u8]) -> Kind {
+    if is_line(line, b"open", b"uuill") {
+        return Kind::Open;
     }
     if is_line(line, b"tick", b"ul") {
         return Kind::Tick;
@@ -311,10 +319,7 @@ fn coordinator_kind(line: &[u8]) -> Kind {
     if is_line(line, b"order", b"u") {
         return Kind::Order;
     }
-    if is_line(line, b"ack", b"uulsu") {
-        return Kind::Ack;
-    }
-    store_kind(line)
+    producer_kind(line)
 }
 
 // Which line it is, whatever its bytes; an empty one and a comment are blank.

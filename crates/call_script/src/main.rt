@@ -1,13 +1,7 @@
 // A program that makes the calls of a script, one for each line, on slices of its stores, and writes their answers; tools/calls.py says how a line is written.
-mod input;
-mod on_log;
-mod on_words;
-mod show;
-mod stores;
-
 use call_lines::Kind;
 use coordinator::Coordinator;
-use input::Step;
+use input_lines::Step;
 use partition::Partition;
 ghost use Prim.Native.Nat.{_<_};
 
@@ -49,7 +43,7 @@ fn with_partition(s: State, index: usize, p: Partition) -> State
 // A line with another text of the catalogue.
 fn set_text(s: State, line: &[u8]) -> State {
     let mut text = s.text;
-    let length = stores::catalogue(s.length, line, &mut text);
+    let length = call_answers::write_catalogue(s.length, line, &mut text);
     let mut u = s;
     u.text = text;
     u.length = length;
@@ -68,7 +62,7 @@ fn call_with_text(
     if text.len() < n {
         return c;
     }
-    on_log::perform(c, kind, line, &text[..n], log)
+    log_calls::perform(c, kind, line, &text[..n], log)
 }
 
 // A line with a call of the coordinator.
@@ -86,16 +80,16 @@ fn call_lent(s: State, kind: Kind, line: &[u8], index: usize, words: &mut [u64])
     let p = s.partitions[index];
     match kind {
         Kind::Read => {
-            on_words::read(p, line, words);
+            word_calls::read(p, line, words);
             s
         }
         Kind::Words => {
-            stores::show_words(line, words);
+            call_answers::show_words(line, words);
             s
         }
         _ => {
             let c = s.coordinator;
-            with_partition(s, index, on_words::perform(c, p, kind, line, words))
+            with_partition(s, index, word_calls::perform(c, p, kind, line, words))
         }
     }
 }
@@ -113,11 +107,11 @@ fn call_partition(s: State, kind: Kind, line: &[u8], words: &mut [u64]) -> State
     let index = call_lines::place(line, 1);
     let lent = lent_words(kind, line);
     if PARTITIONS <= index {
-        show::unknown();
+        call_answers::unknown();
         return s;
     }
     if WORDS_ROOM < lent {
-        show::unknown();
+        call_answers::unknown();
         return s;
     }
     let start = index * WORDS_ROOM;
@@ -131,10 +125,10 @@ fn call_partition(s: State, kind: Kind, line: &[u8], words: &mut [u64]) -> State
 // A line that changes no state.
 fn show_line(kind: Kind, line: &[u8], log: &mut [u8]) {
     match kind {
-        Kind::Blank => show::whole(line),
-        Kind::Bytes => stores::bytes(line, log),
-        Kind::Log => stores::show_log(line, log),
-        _ => show::unknown(),
+        Kind::Blank => call_answers::whole(line),
+        Kind::Bytes => call_answers::write_log(line, log),
+        Kind::Log => call_answers::show_log(line, log),
+        _ => call_answers::unknown(),
     }
 }
 
@@ -178,7 +172,7 @@ fn perform_step(s: State, buffer: &[u8], step: Step, log: &mut [u8], words: &mut
     match step {
         Step::Line { from, len, rest: _ } => perform_part(s, buffer, from, len, log, words),
         Step::Long { rest: _ } => {
-            show::unknown();
+            call_answers::unknown();
             s
         }
         _ => s,
@@ -205,15 +199,15 @@ fn opened(log: &[u8]) -> State {
 // Reads and performs until there is no more.
 fn run(buffer: &mut [u8], log: &mut [u8], words: &mut [u64]) {
     let mut state = opened(log);
-    let mut cursor = input::start();
+    let mut cursor = input_lines::start();
     let mut turns = u64::MAX;
     while 0 < turns {
-        let step = input::next(buffer, cursor);
-        if input::is_end(step) {
+        let step = input_lines::next(buffer, cursor);
+        if input_lines::is_end(step) {
             return;
         }
         state = perform_step(state, buffer, step, log, words);
-        cursor = input::behind(step);
+        cursor = input_lines::behind(step);
         turns -= 1;
     }
 }

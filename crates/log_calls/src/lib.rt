@@ -1,5 +1,4 @@
 // The lines with a call of the coordinator. Each is lent the bytes that its line says, and answers the coordinator's state after it.
-use crate::show;
 use answers::OpenAnswer;
 use call_lines::Kind;
 use coordinator::Coordinator;
@@ -20,7 +19,7 @@ fn open(c: Coordinator, line: &[u8], text: &[u8], log: &[u8]) -> Coordinator {
     let last = call_lines::signed_64(line, 5);
     let made = calls::opening(text, log, length, epoch, first, last);
     let answer = made.answer;
-    show::opened(answer);
+    call_answers::opened(answer);
     let state = made.state;
     kept(c, answer, state)
 }
@@ -32,7 +31,7 @@ fn init(c: Coordinator, line: &[u8], log: &mut [u8]) -> Coordinator {
     let time = call_lines::signed_64(line, 4);
     let made = calls::init(c, log, name, timeout, time);
     let answer = made.answer;
-    show::initialized(answer);
+    call_answers::initialized(answer);
     made.state
 }
 
@@ -45,7 +44,7 @@ fn add(c: Coordinator, line: &[u8], log: &mut [u8]) -> Coordinator {
     let time = call_lines::signed_64(line, 6);
     let made = calls::add(c, log, name, pid, epoch, set, time);
     let answer = made.answer;
-    show::done(answer);
+    call_answers::done(answer);
     made.state
 }
 
@@ -58,7 +57,7 @@ fn end(c: Coordinator, line: &[u8], log: &mut [u8]) -> Coordinator {
     let time = call_lines::signed_64(line, 6);
     let made = calls::end(c, log, name, pid, epoch, verdict, time);
     let answer = made.answer;
-    show::done(answer);
+    call_answers::done(answer);
     made.state
 }
 
@@ -66,7 +65,7 @@ fn end(c: Coordinator, line: &[u8], log: &mut [u8]) -> Coordinator {
 fn tick(c: Coordinator, line: &[u8], log: &mut [u8]) -> Coordinator {
     let made = calls::tick(c, log, call_lines::signed_64(line, 2));
     let answer = made.answer;
-    show::ticked(answer);
+    call_answers::ticked(answer);
     made.state
 }
 
@@ -78,7 +77,7 @@ fn ack(c: Coordinator, line: &[u8], log: &mut [u8]) -> Coordinator {
     let position = call_lines::place(line, 5);
     let made = calls::ack(c, log, place, pid, epoch, position);
     let answer = made.answer;
-    show::done(answer);
+    call_answers::done(answer);
     made.state
 }
 
@@ -86,13 +85,13 @@ fn ack(c: Coordinator, line: &[u8], log: &mut [u8]) -> Coordinator {
 fn flush(c: Coordinator, line: &[u8]) -> Coordinator {
     let made = calls::flush(c, call_lines::place(line, 1));
     let answer = made.answer;
-    show::done(answer);
+    call_answers::done(answer);
     made.state
 }
 
 // `order SET`
 fn order(c: Coordinator, line: &[u8]) -> Coordinator {
-    show::ordered(calls::order(c, call_lines::unsigned(line, 1)));
+    call_answers::ordered(calls::order(c, call_lines::unsigned(line, 1)));
     c
 }
 
@@ -130,11 +129,11 @@ pub fn perform(
 ) -> Coordinator {
     let n = lent_length(kind, line);
     if log.len() < n {
-        show::unknown();
+        call_answers::unknown();
         return c;
     }
-    show::word(line);
+    call_answers::word(line);
     let state = lent(c, kind, line, text, &mut log[..n]);
-    show::coordinator(state);
+    call_answers::coordinator(state);
     state
 }

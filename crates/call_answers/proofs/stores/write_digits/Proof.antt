@@ -1,10 +1,10 @@
--- `call_script::stores::write_digits` meets its contract.
+-- `call_answers::stores::write_digits` meets its contract.
 use Prim.Native.Nat.{_+_, _-_, _*_, _≤_, _<_}
 use mathlib.Core.Path.{_≡_}
 use lib.ListN.{length}
 use borrow.Author.Needs.{needs}
-use Rattle.call_script.proofs.stores.write_digits.Statement.{statement}
-use Rattle.call_script.proofs.stores.write_digits.Tie as tie
+use Rattle.call_answers.proofs.stores.write_digits.Statement.{statement}
+use Rattle.call_answers.proofs.stores.write_digits.Tie as tie
 
 abbrev Inv-loop : tie.InvT-loop
 Inv-loop log₀ at digits n i₀ log i = (length log ≡ length log₀) × (i ≤ n)

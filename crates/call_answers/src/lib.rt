@@ -1,4 +1,6 @@
-// Writes an answer line: its word, the number and the results of a call, and what a state holds, each behind a tab.
+// The answer lines of a call script: its word, the number and the results of a call, and what a state holds, each behind a tab.
+mod stores;
+
 use answers::Answer;
 use answers::InitAnswer;
 use answers::OpenAnswer;
@@ -9,6 +11,10 @@ use answers::TickAnswer;
 use coordinator::Coordinator;
 use libc::STDOUT_FILENO;
 use partition::Partition;
+pub use stores::show_log;
+pub use stores::show_words;
+pub use stores::write_catalogue;
+pub use stores::write_log;
 
 pub fn bytes(run: &[u8]) {
     io::write_all(STDOUT_FILENO, run);

@@ -1,5 +1,4 @@
 // The lines with a call of a partition. Each is lent the words that its line says, and answers the partition's state after it.
-use crate::show;
 use call_lines::Kind;
 use coordinator::Coordinator;
 use partition::Partition;
@@ -19,7 +18,7 @@ fn produce(c: Coordinator, p: Partition, line: &[u8], words: &mut [u64]) -> Part
     let payload = call_lines::unsigned(line, 8);
     let made = calls::produce(c, p, words, name, pid, epoch, position, sequence, payload);
     let answer = made.answer;
-    show::produced(answer);
+    call_answers::produced(answer);
     made.state
 }
 
@@ -32,13 +31,13 @@ fn marker(p: Partition, line: &[u8], words: &mut [u64]) -> Partition {
     let coordinator = call_lines::signed_32(line, 7);
     let made = calls::marker(p, words, place, pid, epoch, verdict, coordinator);
     let answer = made.answer;
-    show::done(answer);
+    call_answers::done(answer);
     made.state
 }
 
 // `partition INDEX LENT`
 fn opened(words: &[u64]) -> Partition {
-    show::natural(0);
+    call_answers::natural(0);
     calls::open_partition(words.len())
 }
 
@@ -59,20 +58,20 @@ pub fn perform(
     line: &[u8],
     words: &mut [u64],
 ) -> Partition {
-    show::word(line);
+    call_answers::word(line);
     let state = lent(c, p, kind, line, words);
-    show::partition(state);
-    show::end_line();
+    call_answers::partition(state);
+    call_answers::end_line();
     state
 }
 
 // `read INDEX LENT FROM ROOM`, into these words of out.
 fn copy(p: Partition, line: &[u8], words: &[u64], out: &mut [u64]) {
-    show::word(line);
-    show::copied(calls::read(p, words, call_lines::place(line, 3), out));
-    show::partition(p);
-    show::words(out);
-    show::end_line();
+    call_answers::word(line);
+    call_answers::copied(calls::read(p, words, call_lines::place(line, 3), out));
+    call_answers::partition(p);
+    call_answers::words(out);
+    call_answers::end_line();
 }
 
 // Performs a read and writes its answer and all words of out, so that those that it does not touch are seen.
@@ -80,7 +79,7 @@ pub fn read(p: Partition, line: &[u8], words: &[u64]) {
     let mut out = [UNTOUCHED; OUT_ROOM];
     let room = call_lines::place(line, 4);
     if OUT_ROOM < room {
-        show::unknown();
+        call_answers::unknown();
         return;
     }
     copy(p, line, words, &mut out[..room]);

@@ -1,10 +1,10 @@
--- `call_script::stores::write_text` meets its contract.
+-- `call_answers::stores::write_text` meets its contract.
 use Prim.Native.Nat.{_+_, _-_, _*_, _≤_, _<_}
 use mathlib.Core.Path.{_≡_}
 use lib.ListN.{length}
 use borrow.Author.Needs.{needs}
-use Rattle.call_script.proofs.stores.write_text.Statement.{statement}
-use Rattle.call_script.proofs.stores.write_text.Tie as tie
+use Rattle.call_answers.proofs.stores.write_text.Statement.{statement}
+use Rattle.call_answers.proofs.stores.write_text.Tie as tie
 
 abbrev Inv-loop : tie.InvT-loop
 Inv-loop store₀ run i₀ store i = (length store ≡ length store₀) × (i ≤ length run)

@@ -1,10 +1,10 @@
--- `call_script::show::words` meets its contract.
+-- `call_answers::words` meets its contract.
 use Prim.Native.Nat.{_+_, _-_, _*_, _≤_, _<_}
 use mathlib.Core.Path.{_≡_}
 use lib.ListN.{length}
 use borrow.Author.Needs.{needs}
-use Rattle.call_script.proofs.show.words.Statement.{statement}
-use Rattle.call_script.proofs.show.words.Tie as tie
+use Rattle.call_answers.proofs.words.Statement.{statement}
+use Rattle.call_answers.proofs.words.Tie as tie
 
 abbrev Inv-loop : tie.InvT-loop
 Inv-loop run i₀ i = i ≤ length run

@@ -1,8 +1,8 @@
--- `call_script::on_words::read` meets its contract.
+-- `word_calls::read` meets its contract.
 use Rattle.io.proofs.Counting.{front}
 use borrow.Author.Needs.{needs}
-use Rattle.call_script.proofs.on_words.read.Statement.{statement}
-use Rattle.call_script.proofs.on_words.read.Tie as tie
+use Rattle.word_calls.proofs.read.Statement.{statement}
+use Rattle.word_calls.proofs.read.Tie as tie
 
 place-requires : tie.Need-place-requires
 place-requires c κs = search needs

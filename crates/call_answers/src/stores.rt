@@ -1,5 +1,9 @@
 // The lines that write or show the stores: the catalogue's text, the bytes of the log, the words of a partition.
-use crate::show;
+use crate::end_line;
+use crate::hexadecimal;
+use crate::unknown;
+use crate::word;
+use crate::words;
 
 // A catalogue's byte: `:` stands for a tab and `,` for a line feed.
 fn text_byte(b: u8) -> u8 {
@@ -28,15 +32,15 @@ fn write_text(store: &mut [u8], run: &[u8]) -> bool {
 // Writes the word of a line that was obeyed, or `?` for one that was not.
 fn obeyed(line: &[u8], was: bool) {
     if was {
-        show::word(line);
-        show::end_line();
+        word(line);
+        end_line();
         return;
     }
-    show::unknown();
+    unknown();
 }
 
 // `catalogue TEXT`: the length of the text, or the one before if it does not fit.
-pub fn catalogue(length: usize, line: &[u8], store: &mut [u8]) -> usize {
+pub fn write_catalogue(length: usize, line: &[u8], store: &mut [u8]) -> usize {
     let run = call_lines::field(line, 1);
     let fits = write_text(store, run);
     obeyed(line, fits);
@@ -61,7 +65,7 @@ fn write_digits(log: &mut [u8], at: usize, digits: &[u8]) -> bool {
 }
 
 // `bytes AT HEX`
-pub fn bytes(line: &[u8], log: &mut [u8]) {
+pub fn write_log(line: &[u8], log: &mut [u8]) {
     let at = call_lines::place(line, 1);
     obeyed(line, write_digits(log, at, call_lines::field(line, 2)));
 }
@@ -71,33 +75,33 @@ pub fn show_log(line: &[u8], log: &[u8]) {
     let from = call_lines::place(line, 1);
     let count = call_lines::place(line, 2);
     if log.len() < from {
-        show::unknown();
+        unknown();
         return;
     }
     if log.len() - from < count {
-        show::unknown();
+        unknown();
         return;
     }
     let end = from + count;
-    show::word(line);
-    show::hexadecimal(&log[from..end]);
-    show::end_line();
+    word(line);
+    hexadecimal(&log[from..end]);
+    end_line();
 }
 
 // `words INDEX FROM COUNT`, of the words of that partition.
-pub fn show_words(line: &[u8], words: &[u64]) {
+pub fn show_words(line: &[u8], store: &[u64]) {
     let from = call_lines::place(line, 2);
     let count = call_lines::place(line, 3);
-    if words.len() < from {
-        show::unknown();
+    if store.len() < from {
+        unknown();
         return;
     }
-    if words.len() - from < count {
-        show::unknown();
+    if store.len() - from < count {
+        unknown();
         return;
     }
     let end = from + count;
-    show::word(line);
-    show::words(&words[from..end]);
-    show::end_line();
+    word(line);
+    words(&store[from..end]);
+    end_line();
 }

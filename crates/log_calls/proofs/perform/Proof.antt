@@ -1,8 +1,8 @@
--- `call_script::on_log::perform` meets its contract.
+-- `log_calls::perform` meets its contract.
 use Rattle.io.proofs.Counting.{front}
 use borrow.Author.Needs.{needs}
-use Rattle.call_script.proofs.on_log.perform.Statement.{statement}
-use Rattle.call_script.proofs.on_log.perform.Tie as tie
+use Rattle.log_calls.proofs.perform.Statement.{statement}
+use Rattle.log_calls.proofs.perform.Tie as tie
 
 lent-length-requires : tie.Need-lent-length-requires
 lent-length-requires c κs = search needs
