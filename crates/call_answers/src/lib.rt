@@ -1,4 +1,4 @@
-// The answer lines of a call script: its word, the number and the results of a call, and what a state holds, each behind a tab.
+// The answers of a call script, written to standard output: the word of a line, the number and the results of a call, and what a state holds, each behind a tab.
 mod stores;
 
 use answers::Answer;
