@@ -1,6 +1,5 @@
 -- `call_answers::hexadecimal` meets its contract.
-use Prim.Native.Nat.{_+_, _-_, _*_, _≤_, _<_}
-use mathlib.Core.Path.{_≡_}
+use Prim.Native.Nat.{_-_, _≤_}
 use lib.ListN.{length}
 use borrow.Author.Needs.{needs}
 use Rattle.call_answers.proofs.hexadecimal.Statement.{statement}
