@@ -132,12 +132,19 @@ pub fn ticked(answer: TickAnswer) {
 
 pub fn ordered(answer: OrderAnswer) {
     match answer {
-        OrderAnswer::Order(place, pid, epoch, verdict, position, coordinator) => {
+        OrderAnswer::Order {
+            place,
+            pid,
+            epoch,
+            verdict,
+            position,
+            coordinator,
+        } => {
             natural(0);
             natural(place as u64);
             signed(pid);
             signed(numbers::wide_i16(epoch));
-            natural(verdict as u64);
+            natural(verdict);
             natural(position as u64);
             signed(numbers::wide_i32(coordinator));
         }
