@@ -1,5 +1,5 @@
 -- Laws of a number as a set of positions, over all numbers and positions.
-use mathlib.Core.Path.{_≡_, refl, sym, ap, ap₂, _∙_}
+use mathlib.Core.Path.{_≡_, refl, sym, ap, ap₂, subst, _∙_}
 use mathlib.Core.Bool.{Bool, true, false, true≢false}
 use mathlib.Core.List.{[], _∷_, _++_, append-nil}
 use Prim.Native.Nat.{ℕ, zero, suc, _+_, _-_, _*_, _/_, _%_, _^_, _≤_, _<_, min, max}
@@ -7,13 +7,13 @@ use native.Mathlib.Nat.{div-div-eq-div-mul, div-eq-of-lt, div-one, pow-succ', tw
 use native.Mathlib.Numerals.{one-add}
 use native.Mathlib.Decide.{ℕ-discrete}
 use native.Mathlib.Omega.{arith}
-use lib.Bits.{bitAnd, bitOr, and-shr, or-shr, and-step, or-step, and-block, or-disjoint, and-mask, and-zero-r, and-comm, or-comm, and-le-l, and-le-r, and-lt, or-lt, or-add-and}
-use lib.Dec.{ltb}
+use lib.Bits.{bitAnd, bitOr, and-shr, or-shr, and-step, or-step, and-block, or-disjoint, and-mask, and-zero-l, and-zero-r, and-comm, or-comm, and-le-l, and-le-r, and-lt, or-lt, or-add-and}
+use lib.Dec.{eqb, ltb}
 use lib.Count.{ones, ones-step, ones-cat, ones-le, trailingZeros, trailing-of-zero, under}
 use lib.ListN.{length, length-append}
 use lib.Pow.{pow-pos, pow-lt, pow-mono, ones-sub-lt, shr-shr, shr-lt, split}
 use borrow.Author.Tests.{ltb-true, ltb-false, eqb-true, eqb-false, eq-eqb, ne-eqb}
-use Rattle.bits.specs.Bits.{bit, Member, member, insert, union, differenceOf, subset, lowest, count, times, members}
+use Rattle.bits.specs.Bits.{bit, Member, member, insert, union, difference, differenceOf, subset, lowest, count, times, members}
 
 -- ---- a digit at a time
 
@@ -380,3 +380,44 @@ pub members-some : (k x : ℕ) → 0 < x → x < 2 ^ k → 0 < length (members k
 members-some k x n h =
     let z : length (members k x) ≡ 0 → ⊥ = λ e. omega (arith, count-zero k x h (sym (members-length k x h) ∙ e)) in
     omega arith
+
+-- ---- what is left of a set
+
+pub member-nothing : (x : ℕ) → member 0 x ≡ true → ⊥
+member-nothing x m = true≢false (sym m ∙ member-is-not 0 x (bit-of-none x))
+
+-- a part has no more members
+pub count-part : (k a m : ℕ) → a < 2 ^ k → count (bitAnd a m) ≤ count a
+count-part zero a m h =
+    let z : a ≡ 0 = omega arith in
+    rw (z, and-zero-l m) (omega arith)
+count-part (suc k) a m h =
+    let i = count-part k (a / 2) (m / 2) (omega (arith, two-pow-succ k)) in
+    let s = and-step a m in
+    let half : bitAnd a m / 2 ≡ bitAnd (a / 2) (m / 2) = omega arith in
+    let low : bitAnd a m % 2 ≡ min (a % 2) (m % 2) = omega arith in
+    let one = ones-step (bitAnd a m) in
+    let two = ones-step a in
+    let same : ones (bitAnd a m / 2) ≡ ones (bitAnd (a / 2) (m / 2)) = ap ones half in
+    omega arith
+
+-- with nothing taken away it is the set
+pub difference-none : (a : ℕ) → a < 2 ^ 64 → difference a 0 ≡ a
+difference-none a h =
+    let e : (2 ^ 64 - 1) - 0 ≡ 2 ^ 64 - 1 = omega arith in
+    ap (bitAnd a) e ∙ and-mask a 64 ∙ omega arith
+
+-- where one is left of a set, every other one is taken away
+pub last-left : (a b p : ℕ) → a < 2 ^ 64 → b < 2 ^ 64 → p < 64 → member a p ≡ true → member b p ≡ false → eqb (count (difference a b)) 1 ≡ true
+    → (x : ℕ) → member a x ≡ true → (x ≡ p → ⊥) → member b x ≡ true
+last-left a b p ha hb below joins new last x m n = go (member b x) refl
+  where
+    go : (t : Bool) → member b x ≡ t → t ≡ true
+    go true e = refl
+    go false e =
+        let one = count-left 64 a b p ha hb below (member-true a p joins) (member-false b p new) in
+        let is : count (difference a b) ≡ 1 = eqb-true (count (difference a b)) 1 last in
+        let small = insert-below 64 b p hb below in
+        let none-left : difference a (insert b p) ≡ 0 = count-zero 64 (difference a (insert b p)) (let q = and-le-l a ((2 ^ 64 - 1) - insert b p) in omega arith) (omega arith) in
+        let left : member (difference a (insert b p)) x ≡ true = left-is 64 a (insert b p) ha small x m (member-is-not (insert b p) x (insert-other b p x n ∙ member-false b x e)) in
+        absurd (member-nothing x (subst (λ (y : ℕ). member y x ≡ true) none-left left))

@@ -1,35 +1,33 @@
--- The list that completes every flushed prepare: each Order of it gives an order, which is carried, and one fewer is outstanding.
-use Prim.Native.Nat.{ℕ, zero, suc, _+_, _-_, _≤_, _<_, _^_}
+-- The list that completes every flushed prepare (`completing`): each Order of it gives an order, which is carried, and one fewer is left.
+use Prim.Native.Nat.{ℕ, zero, suc, _+_, _≤_, _<_, _^_}
 use mathlib.Core.Path.{_≡_, refl, sym, ap, subst, _∙_}
-use mathlib.Core.Bool.{Bool, true, false, cond, not, _&&_}
-use mathlib.Core.List.{List, [], _∷_}
+use mathlib.Core.Bool.{Bool, true, cond, not, _&&_}
+use mathlib.Core.List.{List, _∷_}
 use mathlib.Core.Option.{some}
 use native.Mathlib.Omega.{arith}
-use lib.Bits.{and-le-l}
 use lib.Count.{ones}
 use lib.Dec.{eqb, ltb}
-use lib.ListN.{length, getD}
-use mir.Syntax.{w16, w32, w64}
-use borrow.Author.Tests.{eq-eqb, eqb-true, eqb-false, lt-ltb, ltb-true, ltb-false, le-ltb, not-true}
-use Rattle.numbers.proofs.Tests.{by-cases, not-both, and-left, and-right, and-both}
-use Rattle.numbers.specs.Border.{signedOf}
-use Rattle.bits.specs.Bits.{member, count, difference, insert, lowest}
-use Rattle.bits.proofs.Laws.{count-zero, count-left, member-true, member-false, subset-same, subset-is, subset-from, left-parts, member-is}
+use lib.ListN.{length}
+use borrow.Author.Tests.{eq-eqb, eqb-true, eqb-false, lt-ltb, ltb-true, ltb-false, not-true}
+use Rattle.numbers.proofs.Tests.{by-cases, not-both, and-left, and-right, and-both, either}
+use Rattle.bits.specs.Bits.{count, difference, insert}
+use Rattle.bits.proofs.Laws.{count-left, member-true, member-false, subset-is}
 use Rattle.catalogue.proofs.Laws.{not-refused, all-bound}
 use Rattle.record.specs.Record.{statusCode}
-use Rattle.record.proofs.Bounds.{well-formed-parts}
-use Rattle.record.specs.declared.Status.{Status}
-use Rattle.record.specs.declared.Status.the-variants.{Empty, Begin, PrepareCommit, PrepareAbort, CompleteCommit, CompleteAbort}
-use Rattle.row.specs.Row.{freeRow, isPrepare, outstanding, withAcknowledged, withEnd}
-use Rattle.row.specs.Steps.{completed, completeOf, verdictOf}
-use Rattle.row.specs.declared.Row.{Row}
-use Rattle.search.specs.Search.{sumOf, Each}
-use Rattle.search.proofs.Laws.{sum-set}
+use Rattle.search.specs.Search.{Each}
+use Rattle.search.proofs.Laws.{sum-set, sum-part, sum-nothing}
+use Rattle.search.proofs.Found.{found-with}
+use Rattle.search.proofs.Members.{In}
+use Rattle.search.proofs.Find.{find-in}
 use Rattle.answers.specs.Limits.{places}
 use Rattle.answers.specs.Answers.{reply}
 use Rattle.answers.specs.Refusals.{Decision}
 use Rattle.answers.specs.declared.Answer.{Answer}
 use Rattle.answers.specs.declared.OrderAnswer.{OrderAnswer}
+use Rattle.row.specs.Row.{freeRow, isPrepare, outstanding, withAcknowledged, withEnd}
+use Rattle.row.specs.Steps.{completed}
+use Rattle.row.specs.declared.Row.{Row}
+use Rattle.row.proofs.Laws.{complete-unprepared}
 use Rattle.table.specs.Table.{rowAt, placeOf, apply}
 use Rattle.coordinator.specs.Coordinator.{logEnd, rowFrame, unflushed, Action, keep, advance, append, flushTo, acknowledge as acknowledgeAt, appended, acknowledged, after}
 use Rattle.coordinator.specs.Order.{due, ordered, orderPlace}
@@ -41,38 +39,24 @@ use Rattle.coordinator.proofs.OrderCases.{ordered-is, order-given, order-lowest
 use Rattle.partition.specs.Partition.{Action as PartitionAction, keep as keepPartition, note, write}
 use Rattle.partition.specs.Marker.{marker}
 use Rattle.runs.specs.History.{Order, orderGiven, orderCarried, markerWritten, History, Logged, collect, carriedIn, recordsOf, flushedOf, latestOf, nextOf, flushedPrepares, isCompleted}
-use Rattle.runs.specs.World.{Leader, Phase, up, Carrying, nothing, toDeliver, toAcknowledge, World, catalogueOf, leaderAt, start, own, Item, callOrder, deliver, acknowledge, withEvent, coordinatorDoes, orderAnswered, deliverable, acknowledgeable, markerCalled, ackCalled, historyAfter, historyWritten, orderedRecord, next, step, run}
+use Rattle.runs.specs.World.{Leader, up, Carrying, nothing, toDeliver, toAcknowledge, World, catalogueOf, leaderAt, start, own, Item, callOrder, deliver, acknowledge, withEvent, coordinatorDoes, orderAnswered, deliverable, acknowledgeable, markerCalled, ackCalled, historyAfter, historyWritten, next, step, run}
 use Rattle.runs.specs.Completing.{carryOne, carryEach, rowLeft, ordersLeft, Completing}
 use Rattle.runs.specs.Demand3.{Completes, CarryingAccepted}
 use Rattle.runs.proofs.Run.{run-append}
 use Rattle.runs.proofs.Cases.{withOrder, while-up}
 use Rattle.runs.proofs.Admitted.{step-own}
-use Rattle.restart.proofs.Lists.{In, found-with, find-in, either}
-use Rattle.restart.proofs.Records.{come-record, After, latest, completed as isOver, after-prepare}
-use Rattle.restart.proofs.Invariant.{UnderWay, CarryingSide, Invariant}
-use Rattle.restart.proofs.Good.{log-of, acks-of}
-use Rattle.restart.proofs.Live.{live-ready, live-latest, live-stands, live-holds}
-use Rattle.restart.proofs.Settled.{proper}
-use Rattle.restart.proofs.Orders.{prepare-held}
-use Rattle.restart.proofs.Steps.{step-good, Reached, run-reached, always}
-use Rattle.restart.proofs.Holds.{carrying-accepted}
-use Rattle.restart.proofs.Grown.{Firm, firm-grown, flushed-firm, told-grown}
-use Rattle.restart.specs.Told.{Told}
-use Rattle.restart.proofs.Acknowledges.{ack-passes, row-joins, joined-small, position-below}
-use Rattle.restart.proofs.Delivers.{place-below}
-
--- ---- sums
-
-sum-nothing : {A : Type 0} (f : A → ℕ) (d : A) (l : List A) → ((k : ℕ) → k < length l → f (getD l k d) ≡ 0) → sumOf f l ≡ 0
-unfolding sumOf
-sum-nothing f d [] z = refl
-sum-nothing f d (x ∷ l) z = let here = z 0 (omega arith) in let rest = sum-nothing f d l (λ k b. z (suc k) (omega arith)) in omega arith
-
-sum-part : {A : Type 0} (f : A → ℕ) (d : A) (l : List A) (k : ℕ) → k < length l → f (getD l k d) ≤ sumOf f l
-unfolding sumOf
-sum-part f d [] k b = absurd (omega arith)
-sum-part f d (x ∷ l) zero b = omega arith
-sum-part f d (x ∷ l) (suc k) b = let rest = sum-part f d l k (omega arith) in omega arith
+use Rattle.protocol.specs.HistoryInvariant.{HistoryInvariant}
+use Rattle.protocol.proofs.AfterPrepare.{After, latest, completed as isOver, after-prepare}
+use Rattle.protocol.proofs.Extends.{FlushedIn, flushed-stays, each-flushed-prepare, extends-keeps}
+use Rattle.agreement.proofs.Invariant.{UnderWay, Invariant}
+use Rattle.agreement.proofs.LiveTable.{live-record-at}
+use Rattle.agreement.proofs.Preserves.{log-of, acks-of, place-inside, row-of, carrying-of, rows-of}
+use Rattle.agreement.proofs.PreparedRow.{some-outstanding, row-flushed, row-prepares, all-due}
+use Rattle.agreement.proofs.Orders.{prepare-held, orderOf}
+use Rattle.agreement.proofs.Delivers.{place-below}
+use Rattle.agreement.proofs.Acknowledges.{ack-passes, row-joins, joined-small, position-below}
+use Rattle.agreement.proofs.Steps.{step-preserves, Reached, run-reached, always}
+use Rattle.restart.proofs.HoldsAt.{carrying-accepted}
 
 -- ---- an Order gives an order while one is outstanding
 
@@ -80,23 +64,12 @@ module _ (w : World) (i : Invariant w) (s : Coordinator) (u : w .phase ≡ up s)
   abbrev all : ℕ
   all = catalogueOf w .all
 
-  rows-all : length (s .table .rows) ≡ places
-  rows-all = proper s (live-ready (catalogueOf w) (w .log) s (w .history) (log-of w i s u) (i .told)) .all
-
   -- what is outstanding at a prepare's place is in the catalogue
   within : (k : ℕ) → isPrepare (rowAt (s .table) k .status) ≡ true → due (rowAt (s .table) k) all ≡ outstanding (rowAt (s .table) k)
   within k p =
-      let c = catalogueOf w in
-      let row = rowAt (s .table) k in
-      let st = live-stands c (w .log) s (w .history) (log-of w i s u) (i .told) k (prepare-held w i s u k p) in
-      let q = st .latest in
-      let parts = well-formed-parts c (q .content) (come-record c (recordsOf (w .history)) (i .told .come) q (find-in _ (recordsOf (w .history)) q (st .is)) .0) in
-      let joined : row .joined ≡ q .content .joined = ap (λ (y : Row). y .joined) (st .row) in
-      let small : row .joined < 2 ^ 64 = omega (arith, parts .joined-below) in
-      subset-same (outstanding row) all
-      (subset-is (outstanding row) all (λ x m.
-      let (a, _) = left-parts 64 (row .joined) (row .acknowledged) small (acks-of w i s u .small k) x (member-is (outstanding row) x m) in
-      subset-from (q .content .joined) all (eq-eqb _ _ (parts .joined-inside)) x (member-true (q .content .joined) x (subst (λ (n : ℕ). member n x ≡ true) joined a))))
+      let st = live-record-at (catalogueOf w) (w .log) s (w .history) (log-of w i s u) (i .of-history) k (prepare-held w i s u k p) in
+      let there = find-in _ (recordsOf (w .history)) (st .latest) (st .is) in
+      all-due w i s u k (st .latest) there (sym (ap (λ (y : Row). isPrepare (y .status)) (st .row)) ∙ p) (st .row) all (subset-is all all (λ x m. m))
 
   left-ordered : (k : ℕ) → (rowLeft (s .flushed) (rowAt (s .table) k) ≡ 0 → ⊥) → ordered (s .flushed) all (rowAt (s .table) k) ≡ true
   unfolding ones
@@ -120,17 +93,9 @@ module _ (w : World) (i : Invariant w) (s : Coordinator) (u : w .phase ≡ up s)
       let high = ltb-false (orderPlace s all) places e in
       absurd (n (sum-nothing (rowLeft (s .flushed)) freeRow (s .table .rows) (λ k b.
       either (eqb (rowLeft (s .flushed) (rowAt (s .table) k)) 0) (λ q. eqb-true _ 0 q)
-      (λ q. absurd (not-both (order-lowest s all k (omega (arith, rows-all))) (left-ordered k (eqb-false _ 0 q))))))))
+      (λ q. absurd (not-both (order-lowest s all k (omega (arith, rows-of w i s u))) (left-ordered k (eqb-false _ 0 q))))))))
 
 -- ---- what is left after an Ack
-
-prepare-completed : (s : Status) → isPrepare s ≡ true → isPrepare (completeOf s) ≡ false
-prepare-completed Empty e = not-both refl e
-prepare-completed Begin e = not-both refl e
-prepare-completed PrepareCommit e = refl
-prepare-completed PrepareAbort e = refl
-prepare-completed CompleteCommit e = not-both refl e
-prepare-completed CompleteAbort e = not-both refl e
 
 module _ (w : World) (i : Invariant w) (s : Coordinator) (u : w .phase ≡ up s) (o : Order) (way : UnderWay (catalogueOf w) (w .history) s o) where
   abbrev row : Row
@@ -140,7 +105,7 @@ module _ (w : World) (i : Invariant w) (s : Coordinator) (u : w .phase ≡ up s)
   passed = ack-passed s (length (w .log)) (o .place) (o .pid) (o .epoch) (o .position) (ack-passes w i s u o way)
 
   inside : o .place < length (s .table .rows)
-  inside = let b = place-below w i s u o way in omega (arith, rows-all w i s u)
+  inside = let b = place-below w i s u o way in omega (arith, rows-of w i s u)
 
   here : rowLeft (s .flushed) row ≡ count (outstanding row)
   here = rw (passed .prepares, passed .flushed) refl
@@ -151,7 +116,8 @@ module _ (w : World) (i : Invariant w) (s : Coordinator) (u : w .phase ≡ up s)
       let new = withAcknowledged row (insert (row .acknowledged) (o .position)) in
       let sums = sum-set (rowLeft (s .flushed)) (s .table .rows) freeRow (o .place) new inside in
       let there : rowLeft (s .flushed) new ≡ count (difference (row .joined) (insert (row .acknowledged) (o .position))) = rw (passed .prepares, passed .flushed) refl in
-      let one = count-left 64 (row .joined) (row .acknowledged) (o .position) (joined-small w i s u o way) (acks-of w i s u .small (o .place)) (position-below w i s u o way) (member-true (row .joined) (o .position) (row-joins w i s u o way)) (member-false (row .acknowledged) (o .position) (way .waits)) in
+      let one = count-left 64 (row .joined) (row .acknowledged) (o .position) (joined-small w i s u o way) (acks-of w i s u .small (o .place)) (position-below w i s u o way)
+      (member-true (row .joined) (o .position) (row-joins w i s u o way)) (member-false (row .acknowledged) (o .position) (way .waits)) in
       omega (arith, here)
 
   left-completed : lastOutstanding row ≡ true → ordersLeft (appended s (o .place) (completed row (s .clock))) + 1 ≡ ordersLeft s
@@ -159,7 +125,7 @@ module _ (w : World) (i : Invariant w) (s : Coordinator) (u : w .phase ≡ up s)
   left-completed last =
       let new = withEnd (completed row (s .clock)) (logEnd s + length (rowFrame s (completed row (s .clock)))) in
       let sums = sum-set (rowLeft (s .flushed)) (s .table .rows) freeRow (o .place) new inside in
-      let there : rowLeft (s .flushed) new ≡ 0 = rw (prepare-completed (row .status) (passed .prepares)) refl in
+      let there : rowLeft (s .flushed) new ≡ 0 = rw (complete-unprepared (row .status) (passed .prepares)) refl in
       let one : count (outstanding row) ≡ 1 = eqb-true (count (outstanding row)) 1 last in
       omega (arith, here)
 
@@ -173,27 +139,27 @@ module _ (w : World) (i : Invariant w) (s : Coordinator) (u : w .phase ≡ up s)
 -- ---- one order is carried
 
 -- the events of an action carry nothing, and neither does a marker
-action-quiet : (a : Action) (s : Coordinator) (h : History) → collect carriedIn (historyAfter a s h) ≡ collect carriedIn h
+action-carries-nothing : (a : Action) (s : Coordinator) (h : History) → collect carriedIn (historyAfter a s h) ≡ collect carriedIn h
 unfolding collect
-action-quiet keep s h = refl
-action-quiet (advance clock) s h = refl
-action-quiet (append place row) s h = refl
-action-quiet (acknowledgeAt place position) s h = refl
-action-quiet (flushTo n) s h = refl
+action-carries-nothing keep s h = refl
+action-carries-nothing (advance clock) s h = refl
+action-carries-nothing (append place row) s h = refl
+action-carries-nothing (acknowledgeAt place position) s h = refl
+action-carries-nothing (flushTo n) s h = refl
 
-marker-quiet : (a : PartitionAction) (o : Order) (h : History) → collect carriedIn (historyWritten a (markerWritten o) h) ≡ collect carriedIn h
+marker-carries-nothing : (a : PartitionAction) (o : Order) (h : History) → collect carriedIn (historyWritten a (markerWritten o) h) ≡ collect carriedIn h
 unfolding collect
-marker-quiet keepPartition o h = refl
-marker-quiet (note coordinator place q) o h = refl
-marker-quiet (write coordinator place q words) o h = refl
+marker-carries-nothing keepPartition o h = refl
+marker-carries-nothing (note coordinator place q) o h = refl
+marker-carries-nothing (write coordinator place q words) o h = refl
 
 carried-length : (o : Order) (h : History) → length (collect carriedIn (orderCarried o ∷ h)) ≡ 1 + length (collect carriedIn h)
 unfolding collect
 carried-length o h = omega arith
 
-given-quiet : (o : Order) (h : History) → collect carriedIn (orderGiven o ∷ h) ≡ collect carriedIn h
+given-carries-nothing : (o : Order) (h : History) → collect carriedIn (orderGiven o ∷ h) ≡ collect carriedIn h
 unfolding collect
-given-quiet o h = refl
+given-carries-nothing o h = refl
 
 -- Ack
 record Acked (w v : World) (s : Coordinator) : Type 0 where
@@ -208,14 +174,14 @@ acked w i s u n o e =
       state = after action s;
       phase = ap (λ (v : World). v .phase) is;
       left = left-acked w i s u o way;
-      carried = ap (λ (v : World). length (collect carriedIn (v .history))) is ∙ ap length (action-quiet action s (orderCarried o ∷ w .history)) ∙ carried-length o (w .history);
+      carried = ap (λ (v : World). length (collect carriedIn (v .history))) is ∙ ap length (action-carries-nothing action s (orderCarried o ∷ w .history)) ∙ carried-length o (w .history);
     }
   where
     action : Action
     action = actionOf (ackCall (o .place) (o .pid) (o .epoch) (o .position)) s (length (w .log))
 
     way : UnderWay (catalogueOf w) (w .history) s o
-    way = subst (λ (p : Phase). CarryingSide (catalogueOf w) (w .history) p (toAcknowledge n o)) u (subst (CarryingSide (catalogueOf w) (w .history) (w .phase)) e (i .carried)) .0
+    way = carrying-of w i s u (toAcknowledge n o) e .0
 
     f : Order → World
     f q = ackCalled own q s w
@@ -234,7 +200,7 @@ delivered w i s u n o e =
     record {
       phase = ap (λ (v : World). v .phase) is ∙ u;
       carrying = ap (λ (v : World). v .carrying) is ∙ ap (λ (m : ℕ). cond (eqb m 0) (toAcknowledge n o) nothing) done;
-      carried = ap (λ (v : World). collect carriedIn (v .history)) is ∙ marker-quiet action o (w .history);
+      carried = ap (λ (v : World). collect carriedIn (v .history)) is ∙ marker-carries-nothing action o (w .history);
     }
   where
     l : Leader
@@ -260,7 +226,7 @@ record Given (w v : World) (s : Coordinator) (o : Order) : Type 0 where
 
 given : (w : World) → Invariant w → (s : Coordinator) → w .phase ≡ up s → (ordersLeft s ≡ 0 → ⊥) → (o : Order) × Given w (step (callOrder (catalogueOf w .all)) w) s o
 given w i s u n =
-    (o, record { phase = ap (λ (v : World). v .phase) is ∙ u; carrying = ap (λ (v : World). v .carrying) is; carried = ap (λ (v : World). collect carriedIn (v .history)) is ∙ given-quiet o (w .history) })
+    (o, record { phase = ap (λ (v : World). v .phase) is ∙ u; carrying = ap (λ (v : World). v .carrying) is; carried = ap (λ (v : World). collect carriedIn (v .history)) is ∙ given-carries-nothing o (w .history) })
   where
     set : ℕ
     set = catalogueOf w .all
@@ -269,17 +235,7 @@ given w i s u n =
     place = orderPlace s set
 
     o : Order
-    o =
-        let r = rowAt (s .table) place in
-        record {
-          place = place;
-          pid = signedOf w64 (r .pid);
-          epoch = signedOf w16 (r .epoch);
-          verdict = verdictOf (r .status);
-          position = lowest (due r set);
-          coordinator = signedOf w32 (s .epoch);
-          for = orderedRecord s place (w .history);
-        }
+    o = orderOf s set place (w .history)
 
     word : isWord set ≡ true
     word = lt-ltb set (2 ^ 64) (all-bound (w .text) (catalogueOf w) (not-refused (w .text) (i .parsed)))
@@ -290,7 +246,7 @@ given w i s u n =
 -- ---- all of them
 
 step-invariant : (w : World) → Invariant w → (x : Item) → Invariant (step x w)
-step-invariant w i x = step-good w i x .holds (step-own x w (i .own))
+step-invariant w i x = step-preserves w i x .holds (step-own x w (i .own))
 
 carried-one : (w : World) → Invariant w → (s : Coordinator) → w .phase ≡ up s → (ordersLeft s ≡ 0 → ⊥) → Acked w (run (carryOne w) w) s
 unfolding run
@@ -330,35 +286,26 @@ all-carried (suc n) w i s u e =
 -- while a prepare is its name's latest record an order for it is outstanding
 latest-left : (v : World) → Invariant v → (s : Coordinator) → v .phase ≡ up s → (p : Logged) → In p (recordsOf (v .history)) → p .end ≤ flushedOf (v .history) → isPrepare (p .content .status) ≡ true
     → latestOf (p .content .name) (v .history) ≡ some p → ordersLeft s ≡ 0 → ⊥
-latest-left v j s u p stands firm prepares e none-left =
+latest-left v j s u p stands is-flushed prepares e none-left =
     let c = catalogueOf v in
     let h = v .history in
-    let l = log-of v j s u in
     let k = placeOf (s .table) (p .content .name) in
-    let row = rowAt (s .table) k in
-    let row-is = live-latest c (v .log) s h l (j .told) (p .content .name) p e in
-    let waits : isPrepare (row .status) ≡ true = ap (λ (y : Row). isPrepare (y .status)) row-is ∙ prepares in
-    let end : row .end ≡ p .end = ap (λ (y : Row). y .end) row-is in
-    let flushed : unflushed (s .flushed) row ≡ false = le-ltb (s .flushed) (row .end) (omega (arith, l .flushed)) in
-    let joined : row .joined ≡ p .content .joined = ap (λ (y : Row). y .joined) row-is in
-    let small = well-formed-parts c (p .content) (come-record c (recordsOf h) (j .told .come) p stands .0) .joined-below in
-    let row-small : outstanding row < 2 ^ 64 = let b = and-le-l (row .joined) ((2 ^ 64 - 1) - row .acknowledged) in omega arith in
-    let some : count (outstanding row) ≡ 0 → ⊥ = λ q. acks-of v j s u .waiting k waits (count-zero 64 (outstanding row) row-small q) in
-    let left : rowLeft (s .flushed) row ≡ count (outstanding row) = rw (waits, flushed) refl in
-    let inside : k < places = ltb-true k places (live-holds c (v .log) s h l (j .told) (p .content .name) p e) in
-    let most = sum-part (rowLeft (s .flushed)) freeRow (s .table .rows) k (omega (arith, rows-all v j s u)) in
-    some (omega arith)
+    let row-is = row-of v j s u (p .content .name) p e in
+    let left : rowLeft (s .flushed) (rowAt (s .table) k) ≡ count (outstanding (rowAt (s .table) k)) = rw (row-prepares v j s u k p stands prepares row-is, row-flushed v j s u k p stands prepares row-is is-flushed) refl in
+    let inside : k < places = place-inside v j s u (p .content .name) p e in
+    let most = sum-part (rowLeft (s .flushed)) freeRow (s .table .rows) k (omega (arith, rows-of v j s u)) in
+    some-outstanding v j s u k p stands prepares row-is (omega arith)
 
 all-completed : (w : World) → Invariant w → (v : World) → Reached w v → (s : Coordinator) → v .phase ≡ up s → ordersLeft s ≡ 0 → Each (λ (p : Logged). isCompleted (v .history) p ≡ true) (flushedPrepares (w .history))
 all-completed w i v r s u none-left =
-    flushed-firm (w .history) (λ (p : Logged). isCompleted (v .history) p ≡ true)
+    each-flushed-prepare (w .history) (λ (p : Logged). isCompleted (v .history) p ≡ true)
     (λ p f prepares.
     let c = catalogueOf w in
-    let t : Told c (v .history) = told-grown c (w .history) (i .told) (r .grown) in
-    let g = firm-grown c (w .history) (i .told) p f (r .grown) in
+    let t : HistoryInvariant c (v .history) = extends-keeps c (w .history) (i .of-history) (r .extends) in
+    let g = flushed-stays c (w .history) (i .of-history) p f (r .extends) in
     go p prepares g (after-prepare c (length (v .history)) (recordsOf (v .history)) (t .come) (t .ends) (t .numbered) p (g .stands) prepares))
   where
-    go : (p : Logged) → isPrepare (p .content .status) ≡ true → Firm (v .history) p → After p (recordsOf (v .history)) → isCompleted (v .history) p ≡ true
+    go : (p : Logged) → isPrepare (p .content .status) ≡ true → FlushedIn (v .history) p → After p (recordsOf (v .history)) → isCompleted (v .history) p ≡ true
     go p prepares g (latest n l) = absurd (latest-left v (r .invariant) s u p (g .stands) (g .flushed) prepares l none-left)
     go p prepares g (isOver k) =
         found-with (Completes p) (nextOf p (v .history)) k

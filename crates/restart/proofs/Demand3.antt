@@ -1,40 +1,48 @@
--- The theorem of demand 3, and the exact count of carried orders behind its last sentence.
+-- The theorem of demand 3 (`demand-3`), and the exact count of carried orders behind its last sentence (`exactly`). Why it holds:
+-- Both runs go on from the world that the shared list reaches, and the invariant holds in every world of a run (`always`). So each clause is shown once,
+-- of any list from any world with the invariant; the cut run is the list that starts with the cut and the opening.
+-- Kept: no cut takes a flushed record, so a flushed prepare stands in both runs; the record that follows it for its name completes it, with its producer.
+-- At the end of a run (`HoldsAt`): a marker is for a flushed prepare, one for each prepare and partition, and every entry of a completed transaction
+-- stands under its verdict. These are clauses of the invariant of the history, or follow from them.
+-- In time: the orders carried for a prepare and its partitions that are not acknowledged have one sum as long as it is not completed (`TotalOrders`).
+-- Only an Ack of an order for it changes either of them: one more is carried and one fewer is left. With none left it is completed. As at first no more
+-- are left than it lists partitions, it completes after at most that many carried orders.
 use Prim.Native.Nat.{ℕ, _+_, _-_, _≤_, _<_, _^_}
 use mathlib.Core.Path.{_≡_, refl, sym, ap, subst, _∙_}
 use mathlib.Core.Bool.{true, false, not, _&&_, true≢false}
 use mathlib.Core.List.{List, [], _∷_}
 use mathlib.Core.Option.{none, some}
 use native.Mathlib.Omega.{arith}
-use lib.Bits.{and-le-l}
 use lib.ListN.{length}
 use borrow.Author.Tests.{leb-true}
 use Rattle.numbers.proofs.Tests.{not-both, and-left, and-right}
 use Rattle.bits.specs.Bits.{count}
-use Rattle.bits.proofs.Laws.{count-zero}
+use Rattle.bits.proofs.Laws.{count-zero, count-part}
 use Rattle.catalogue.specs.Catalogue.{parse}
-use Rattle.record.specs.Record.{idle}
 use Rattle.record.proofs.Bounds.{some-joined, well-formed-parts}
-use Rattle.row.specs.Row.{isPrepare, outstanding}
-use Rattle.row.specs.declared.Row.{Row}
 use Rattle.search.specs.Search.{Each, found}
+use Rattle.search.proofs.Found.{found-is}
+use Rattle.search.proofs.Members.{In, in-each}
+use Rattle.search.proofs.Find.{each-filter, find-in}
+use Rattle.row.specs.Row.{isPrepare}
+use Rattle.row.proofs.Laws.{prepare-busy}
 use Rattle.table.specs.Table.{rowAt, placeOf}
 use Rattle.runs.specs.History.{History, Logged, recordsOf, latestOf, nextOf, flushedOf, isFlushed, isFlushedPrepare, flushedPrepares, listed, isCompleted, carriedFor}
 use Rattle.runs.specs.World.{Phase, up, down, World, catalogueOf, start, Item, cut, reopen, step, run}
 use Rattle.runs.specs.Demand3.{Keeps, Kept, Undisturbed, CompletesInTime, Promised, Demand3}
 use Rattle.runs.proofs.Admitted.{step-own}
 use Rattle.runs.proofs.Epochs.{Epochs, start-epochs, run-epochs}
-use Rattle.restart.specs.Told.{Told}
-use Rattle.restart.proofs.Lists.{In, found-is, in-each, each-filter, either}
-use Rattle.restart.proofs.Records.{come-record, latest-last}
-use Rattle.restart.proofs.Telling.{prepare-idle}
-use Rattle.restart.proofs.Grown.{Firm, firm-grown, flushed-firm, kept-stands, kept-next, told-grown}
-use Rattle.restart.proofs.Invariant.{Invariant}
-use Rattle.restart.proofs.Live.{live-latest}
-use Rattle.restart.proofs.Good.{log-of, acks-of}
-use Rattle.restart.proofs.Steps.{step-good, Reached, run-reached, always}
-use Rattle.restart.proofs.Holds.{holds-at, pending-latest}
-use Rattle.restart.proofs.Tally.{count-part, leftOf, Tally, over, waits}
-use Rattle.restart.proofs.Counted.{step-counts}
+use Rattle.protocol.specs.HistoryInvariant.{HistoryInvariant}
+use Rattle.protocol.proofs.TableOfRecords.{come-record}
+use Rattle.protocol.proofs.AfterPrepare.{latest-last}
+use Rattle.protocol.proofs.Extends.{FlushedIn, flushed-stays, each-flushed-prepare, kept-stands, kept-next, extends-keeps}
+use Rattle.agreement.proofs.Invariant.{Invariant}
+use Rattle.agreement.proofs.Preserves.{row-of}
+use Rattle.agreement.proofs.PreparedRow.{row-joined, row-small, some-outstanding}
+use Rattle.agreement.proofs.Steps.{step-preserves, Reached, run-reached, always}
+use Rattle.restart.proofs.HoldsAt.{holds-at, pending-latest}
+use Rattle.restart.proofs.TotalOrders.{leftOf, TotalOrders, finished, unfinished}
+use Rattle.restart.proofs.TotalOrdersKept.{step-counts}
 
 -- ---- kept
 
@@ -42,23 +50,28 @@ kept : (w : World) → Invariant w → (items : List Item) → Each (Kept (run i
 kept w i items =
     let r = run-reached items w i in
     let c = catalogueOf w in
-    let t : Told c (run items w .history) = told-grown c (w .history) (i .told) (r .grown) in
-    flushed-firm (w .history) (Kept (run items w))
+    let t : HistoryInvariant c (run items w .history) = extends-keeps c (w .history) (i .of-history) (r .extends) in
+    each-flushed-prepare (w .history) (Kept (run items w))
     (λ p f prepares.
-    let g = firm-grown c (w .history) (i .told) p f (r .grown) in
-    record { stands = found-is (Keeps p) (kept-stands c (run items w .history) t p (g .stands)) (record { verdict = refl; pid = refl; epoch = refl; partitions = refl; unchanged = refl }); next = kept-next c (run items w .history) t p (g .stands) prepares })
+    let g = flushed-stays c (w .history) (i .of-history) p f (r .extends) in
+    record {
+      stands = found-is (Keeps p) (kept-stands c (run items w .history) t p (g .stands))
+          (record { verdict = refl; pid = refl; epoch = refl; partitions = refl; unchanged = refl });
+      next = kept-next c (run items w .history) t p (g .stands) prepares;
+    })
 
 -- ---- the count of carried orders
 
-run-counts : (all : ℕ) (p : Logged) → isPrepare (p .content .status) ≡ true → (n : ℕ) (items : List Item) (w : World) → all ≡ catalogueOf w .all → Invariant w → Firm (w .history) p → Tally p n (w .phase) (w .history)
-    → Each (Undisturbed all) items → Tally p n (run items w .phase) (run items w .history)
+run-counts : (all : ℕ) (p : Logged) → isPrepare (p .content .status) ≡ true → (n : ℕ) (items : List Item) (w : World) → all ≡ catalogueOf w .all → Invariant w → FlushedIn (w .history) p
+    → TotalOrders p n (w .phase) (w .history)
+    → Each (Undisturbed all) items → TotalOrders p n (run items w .phase) (run items w .history)
 unfolding run
 run-counts all p prepares n [] w e i f t d = t
 run-counts all p prepares n (x ∷ items) w e i f t (d, ds) =
-    let g = step-good w i x in
+    let g = step-preserves w i x in
     let j = g .holds (step-own x w (i .own)) in
     run-counts all p prepares n items (step x w) (e ∙ ap (λ (y : List ℕ). parse y .catalogue .all) (sym (g .same-text))) j
-    (firm-grown (catalogueOf w) (w .history) (i .told) p f (g .grown)) (step-counts p prepares n w i (f .stands) t x (subst (λ (a : ℕ). Undisturbed a x) e d) j) ds
+    (flushed-stays (catalogueOf w) (w .history) (i .of-history) p f (g .extends)) (step-counts p prepares n w i (f .stands) t x (subst (λ (a : ℕ). Undisturbed a x) e d) j) ds
 
 module _ (w : World) (i : Invariant w) (p : Logged) (there : In p (recordsOf (w .history))) (pending : (isFlushedPrepare (w .history) p && not (isCompleted (w .history) p)) ≡ true) (items : List Item)
     (undisturbed : Each (Undisturbed (catalogueOf w .all)) items) where
@@ -71,22 +84,22 @@ module _ (w : World) (i : Invariant w) (p : Logged) (there : In p (recordsOf (w 
   prepares : isPrepare (p .content .status) ≡ true
   prepares = and-left (isPrepare (p .content .status)) (isFlushed h p) (and-left (isFlushedPrepare h p) (not (isCompleted h p)) pending)
 
-  firm : Firm h p
-  firm = record { stands = there; flushed = leb-true (p .end) (flushedOf h) (and-right (isPrepare (p .content .status)) (isFlushed h p) (and-left (isFlushedPrepare h p) (not (isCompleted h p)) pending)) }
+  is-flushed : FlushedIn h p
+  is-flushed = record { stands = there; flushed = leb-true (p .end) (flushedOf h) (and-right (isPrepare (p .content .status)) (isFlushed h p) (and-left (isFlushedPrepare h p) (not (isCompleted h p)) pending)) }
 
-  tally : Tally p (carriedFor p h + leftOf p (w .phase)) (run items w .phase) v
-  tally = run-counts (catalogueOf w .all) p prepares (carriedFor p h + leftOf p (w .phase)) items w refl i firm (waits (pending-latest w i p there pending) refl) undisturbed
+  total : TotalOrders p (carriedFor p h + leftOf p (w .phase)) (run items w .phase) v
+  total = run-counts (catalogueOf w .all) p prepares (carriedFor p h + leftOf p (w .phase)) items w refl i is-flushed (unfinished (pending-latest w i p there pending) refl) undisturbed
 
   after : Reached w (run items w)
   after = run-reached items w i
 
   small : p .content .joined < 2 ^ 64
-  small = well-formed-parts (catalogueOf w) (p .content) (come-record (catalogueOf w) (recordsOf h) (i .told .come) p there .0) .joined-below
+  small = well-formed-parts (catalogueOf w) (p .content) (come-record (catalogueOf w) (recordsOf h) (i .of-history .come) p there .0) .joined-below
 
   joins-some : 0 < p .content .joined
   joins-some =
-      let busy : idle (p .content .status) ≡ false = either (idle (p .content .status)) (λ e. absurd (prepare-idle (p .content .status) prepares e)) (λ e. e) in
-      some-joined (p .content .status) (p .content .joined) busy (well-formed-parts (catalogueOf w) (p .content) (come-record (catalogueOf w) (recordsOf h) (i .told .come) p there .0) .joined-status)
+      some-joined (p .content .status) (p .content .joined) (prepare-busy (p .content .status) prepares)
+      (well-formed-parts (catalogueOf w) (p .content) (come-record (catalogueOf w) (recordsOf h) (i .of-history .come) p there .0) .joined-status)
 
   -- while it is not completed some partition is left
   some-left : latestOf (p .content .name) v ≡ some p → 1 ≤ leftOf p (run items w .phase)
@@ -96,10 +109,8 @@ module _ (w : World) (i : Invariant w) (p : Logged) (there : In p (recordsOf (w 
       go (up s) u =
           let z = run items w in
           let j = after .invariant in
-          let k = placeOf (s .table) (p .content .name) in
-          let row-is = live-latest (catalogueOf z) (z .log) s (z .history) (log-of z j s u) (j .told) (p .content .name) p e in
-          let row-small : outstanding (rowAt (s .table) k) < 2 ^ 64 = let b = and-le-l (rowAt (s .table) k .joined) ((2 ^ 64 - 1) - rowAt (s .table) k .acknowledged) in omega (arith, ap (λ (r : Row). r .joined) row-is, small) in
-          let n : count (outstanding (rowAt (s .table) k)) ≡ 0 → ⊥ = λ q. acks-of z j s u .waiting k (ap (λ (r : Row). isPrepare (r .status)) row-is ∙ prepares) (count-zero 64 (outstanding (rowAt (s .table) k)) row-small q) in
+          let row-is = row-of z j s u (p .content .name) p e in
+          let n = some-outstanding z j s u (placeOf (s .table) (p .content .name)) p (find-in _ (recordsOf v) p e) prepares row-is in
           omega arith
       go (down m before) u = let n : count (p .content .joined) ≡ 0 → ⊥ = λ q. let z = count-zero 64 (p .content .joined) small q in omega (arith, joins-some) in omega arith
 
@@ -110,15 +121,14 @@ module _ (w : World) (i : Invariant w) (p : Logged) (there : In p (recordsOf (w 
       go : (y : Phase) → w .phase ≡ y → leftOf p y ≤ listed p
       go (up s) u =
           let k = placeOf (s .table) (p .content .name) in
-          let row-is = live-latest (catalogueOf w) (w .log) s h (log-of w i s u) (i .told) (p .content .name) p (pending-latest w i p there pending) in
-          let joined : rowAt (s .table) k .joined ≡ p .content .joined = ap (λ (r : Row). r .joined) row-is in
-          let b = count-part 64 (rowAt (s .table) k .joined) ((2 ^ 64 - 1) - rowAt (s .table) k .acknowledged) (omega (arith, small)) in
-          omega (arith, ap count joined)
+          let row-is = row-of w i s u (p .content .name) p (pending-latest w i p there pending) in
+          let b = count-part 64 (rowAt (s .table) k .joined) ((2 ^ 64 - 1) - rowAt (s .table) k .acknowledged) (row-small w i s u k p there prepares row-is) in
+          omega (arith, ap count (row-joined w i s u k p there prepares row-is))
       go (down m before) u = omega arith
 
   latest-open : latestOf (p .content .name) v ≡ some p → isCompleted v p ≡ true → ⊥
   latest-open e q =
-      let z : nextOf p v ≡ none = latest-last p (length v) (recordsOf v) (after .invariant .told .numbered) e in
+      let z : nextOf p v ≡ none = latest-last p (length v) (recordsOf v) (after .invariant .of-history .numbered) e in
       let f : found _ (nextOf p v) ≡ true = and-right (isPrepare (p .content .status)) _ q in
       true≢false (sym (rw z at f))
 
@@ -128,18 +138,18 @@ module _ (w : World) (i : Invariant w) (p : Logged) (there : In p (recordsOf (w 
     pub until-then : isCompleted v p ≡ false → carriedFor p v < carriedFor p h + leftOf p (w .phase)
 
   pub exactly : Exactly
-  exactly = go tally
+  exactly = go total
     where
-      go : Tally p (carriedFor p h + leftOf p (w .phase)) (run items w .phase) v → Exactly
-      go (over e f) = record { when-completed = λ q. f; until-then = λ q. not-both q e }
-      go (waits e f) = record { when-completed = λ q. absurd (latest-open e q); until-then = λ q. let b = some-left e in omega arith }
+      go : TotalOrders p (carriedFor p h + leftOf p (w .phase)) (run items w .phase) v → Exactly
+      go (finished e f) = record { when-completed = λ q. f; until-then = λ q. not-both q e }
+      go (unfinished e f) = record { when-completed = λ q. absurd (latest-open e q); until-then = λ q. let b = some-left e in omega arith }
 
   in-time : carriedFor p h + listed p ≤ carriedFor p v → isCompleted v p ≡ true
-  in-time b = go tally
+  in-time b = go total
     where
-      go : Tally p (carriedFor p h + leftOf p (w .phase)) (run items w .phase) v → isCompleted v p ≡ true
-      go (over e f) = e
-      go (waits e f) = absurd (let a = some-left e in let m = left-most in omega arith)
+      go : TotalOrders p (carriedFor p h + leftOf p (w .phase)) (run items w .phase) v → isCompleted v p ≡ true
+      go (finished e f) = e
+      go (unfinished e f) = absurd (let a = some-left e in let m = left-most in omega arith)
 
 completes-in-time : (w : World) → Invariant w → (items : List Item) → CompletesInTime w items
 completes-in-time w i items undisturbed =

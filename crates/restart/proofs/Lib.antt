@@ -1,32 +1,15 @@
--- Laws of the crate restart.
-pub mod Lists
-pub mod Records
-pub mod Pids
-pub mod Entries
-pub mod Telling
-pub mod Grown
-pub mod Words
-pub mod Over
-pub mod Settled
-pub mod Invariant
-pub mod Live
-pub mod LogSteps
-pub mod Tables
-pub mod Rows
-pub mod RowsWritten
-pub mod RowsMarked
-pub mod Acks
-pub mod Good
-pub mod Orders
-pub mod Produces
-pub mod Delivers
-pub mod Acknowledges
-pub mod Restarts
-pub mod Start
-pub mod Steps
-pub mod Holds
-pub mod Tally
-pub mod Counted
+-- Theorems of the crate restart, in reading order.
+-- what holds at every moment of a run
+pub mod HoldsAt
+-- the total of carried orders of a prepare
+pub mod TotalOrders
+-- every undisturbed item keeps it
+pub mod TotalOrdersKept
+-- demand 3, and why it holds; the exact count of carried orders
 pub mod Demand3
-pub mod Committed
+-- what stands at an offset of a partition
+pub mod Offsets
+-- Read in every run
+pub mod InEveryRun
+-- a list that completes every flushed prepare
 pub mod Completing

@@ -1,1 +1,1 @@
-// The theorem of demand 3, as an invariant of the world of runs and what follows from it: the crate has no functions.
+// The theorem of demand 3 and what else holds in every run: the crate has no functions.

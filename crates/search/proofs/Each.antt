@@ -1,6 +1,9 @@
 -- Laws of what holds of each element of a list: one element, a changed list, and what a test finds of all of them or of the one found.
-use Prim.Native.Nat.{ℕ, zero, suc}
-use mathlib.Core.Path.{_≡_, refl, sym}
+use Prim.Native.Nat.{ℕ, zero, suc, _+_}
+use mathlib.Core.Path.{_≡_, refl, sym, subst}
+use mathlib.Core.Logic.{_≢_}
+use native.Mathlib.Decide.{ℕ-discrete}
+use native.Mathlib.Omega.{arith}
 use mathlib.Core.Bool.{Bool, true, false, _&&_, true≢false}
 use mathlib.Core.List.{List, [], _∷_}
 use lib.ListN.{getD, set}
@@ -56,3 +59,18 @@ pub first-same : {A : Type 0} (p q : A → Bool) (l : List A) → Each (λ (x : 
 unfolding firstWhere
 first-same p q [] h = refl
 first-same p q (x ∷ l) (h, hs) = rw (h, first-same p q l hs)
+
+-- ---- places
+
+pub each-place : {A : Type 0} (P : ℕ → A → Type 0) (d : A) (n : ℕ) (l : List A) → ((x : ℕ) → P (n + x) (getD l x d)) → EachAt P n l
+each-place P d n [] f = tt
+each-place P d n (y ∷ l) f =
+    (let z : n + 0 ≡ n = omega arith in subst (λ (k : ℕ). P k y) z (f 0), each-place P d (suc n) l (λ x. let z : n + suc x ≡ suc n + x = omega arith in subst (λ (k : ℕ). P k (getD l x d)) z (f (suc x))))
+
+-- what holds of the values of a function holds of another that has the same ones but at one place
+pub but-at : {A : Type 0} (f g : ℕ → A) (k : ℕ) (a : A) → g k ≡ a → ((j : ℕ) → j ≢ k → g j ≡ f j) → (P : ℕ → A → Type 0) → P k a → ((j : ℕ) → P j (f j)) → (j : ℕ) → P j (g j)
+but-at f g k a here others P new old j = go (ℕ-discrete j k)
+  where
+    go : Dec (j ≡ k) → P j (g j)
+    go (yes e) = subst (λ (i : ℕ). P i (g i)) (sym e) (subst (P k) (sym here) new)
+    go (no n) = subst (P j) (sym (others j n)) (old j)

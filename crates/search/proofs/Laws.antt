@@ -9,12 +9,8 @@ use native.Mathlib.Numerals.{add-one}
 use native.Mathlib.Omega.{arith}
 use lib.ListN.{length, take, drop, getD, set, replicate, drop-of-length-le}
 use lib.Seq.{take-suc, take-length, drop-cons}
-use Rattle.search.specs.Search.{firstWhere, countWhere, sumOf}
-
--- a test passes or fails
-either : {C : Type 0} (b : Bool) → (b ≡ true → C) → (b ≡ false → C) → C
-either true f g = f refl
-either false f g = g refl
+use Rattle.numbers.proofs.Tests.{either}
+use Rattle.search.specs.Search.{firstWhere, countWhere, sumOf, Each}
 
 -- an element of the list is the same under every default
 pub default : {A : Type 0} (l : List A) (i : ℕ) (a b : A) → i < length l → getD l i a ≡ getD l i b
@@ -222,3 +218,32 @@ module _ {A B : Type 0} (f : A → B) where
 pub map-same : {A : Type 0} (f : A → A) (l : List A) (d : A) → ((i : ℕ) → f (getD l i d) ≡ getD l i d) → map f l ≡ l
 map-same f [] d h = refl
 map-same f (x ∷ l) d h = rw (h 0, map-same f l d (λ i. h (suc i)))
+
+-- ---- counts
+
+module _ {A : Type 0} (p : A → Bool) where
+  pub count-nothing : (l : List A) → Each (λ (x : A). p x ≡ false) l → countWhere p l ≡ 0
+  unfolding countWhere
+  count-nothing [] h = refl
+  count-nothing (x ∷ l) (h, hs) = rw h (omega (arith, count-nothing l hs))
+
+  pub count-first : (x : A) (l : List A) → p x ≡ true → Each (λ (y : A). p y ≡ false) l → countWhere p (x ∷ l) ≡ 1
+  unfolding countWhere
+  count-first x l e h = rw e (omega (arith, count-nothing l h))
+
+  pub count-other : (x : A) (l : List A) → p x ≡ false → countWhere p (x ∷ l) ≡ countWhere p l
+  unfolding countWhere
+  count-other x l e = rw e (omega arith)
+
+-- ---- sums
+
+pub sum-nothing : {A : Type 0} (f : A → ℕ) (d : A) (l : List A) → ((k : ℕ) → k < length l → f (getD l k d) ≡ 0) → sumOf f l ≡ 0
+unfolding sumOf
+sum-nothing f d [] z = refl
+sum-nothing f d (x ∷ l) z = let here = z 0 (omega arith) in let rest = sum-nothing f d l (λ k b. z (suc k) (omega arith)) in omega arith
+
+pub sum-part : {A : Type 0} (f : A → ℕ) (d : A) (l : List A) (k : ℕ) → k < length l → f (getD l k d) ≤ sumOf f l
+unfolding sumOf
+sum-part f d [] k b = absurd (omega arith)
+sum-part f d (x ∷ l) zero b = omega arith
+sum-part f d (x ∷ l) (suc k) b = let rest = sum-part f d l k (omega arith) in omega arith

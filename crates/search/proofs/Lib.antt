@@ -1,3 +1,6 @@
 -- Laws of the crate search.
 pub mod Laws
 pub mod Each
+pub mod Found
+pub mod Members
+pub mod Find

@@ -20,10 +20,10 @@ use Rattle.partition.specs.declared.Partition.{Partition}
 use Rattle.partition.proofs.Fits.{marker-fits}
 use Rattle.runs.specs.History.{History, Order, orderGiven, markerWritten}
 use Rattle.runs.specs.World.{World, Leader, openLeader, Carrying, nothing, toDeliver, toAcknowledge, leaderDoes, own, Item, callOrder, deliver, acknowledge, orderedRecord, run}
-use Rattle.restart.proofs.Invariant.{Invariant}
-use Rattle.restart.proofs.Steps.{run-reached}
-use Rattle.restart.proofs.Holds.{carrying-accepted}
-use Rattle.restart.proofs.Delivers.{position-listed}
+use Rattle.agreement.proofs.Invariant.{Invariant}
+use Rattle.agreement.proofs.Delivers.{position-listed}
+use Rattle.agreement.proofs.Steps.{run-reached}
+use Rattle.restart.proofs.HoldsAt.{carrying-accepted}
 use Rattle.session.specs.Memory.{Memory, indexOf, partitionAt, wordsAt}
 use Rattle.session.specs.Commands.{Outcome, called, carried}
 use Rattle.server.specs.Calls.{call, markerCall}

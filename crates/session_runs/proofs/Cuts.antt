@@ -22,9 +22,9 @@ use Rattle.server.specs.Lines.{catalogueText}
 use Rattle.writer.specs.Writer.{openingTyped}
 use Rattle.runs.specs.History.{History, logCut, logOpened}
 use Rattle.runs.specs.World.{Leader, Carrying, nothing, Item, cut, reopen, run, down}
-use Rattle.restart.proofs.Invariant.{Invariant}
-use Rattle.restart.proofs.Steps.{run-reached}
-use Rattle.restart.proofs.LogSteps.{down-restarts}
+use Rattle.agreement.proofs.Invariant.{Invariant}
+use Rattle.agreement.proofs.LogSteps.{down-restarts}
+use Rattle.agreement.proofs.Steps.{run-reached}
 use Rattle.session.specs.Limits.{firstPid, lastPid, lastEpoch}
 use Rattle.session.specs.Memory.{Memory, memory}
 use Rattle.session.specs.Commands.{stays, nextEpoch, restarts, cuts}
@@ -110,7 +110,7 @@ module _ (m : Memory) (leaders : List Leader) (k : Carrying) (h : History) (held
     reopened =
         let i = subst Invariant cut-is (run-reached (cut n ∷ []) (world m leaders k h) inv .invariant) in
         subst (λ (z : ℤ). openReply (opening catalogueText (m .log) n z firstPid lastPid .answer) .number ≡ 0) (sym next-is)
-        (down-restarts catalogueText (m .log) (i .parsed) n (logCut n ∷ h) (i .log-side) (i .told) (pos (c .epoch + 1)) firstPid lastPid (rw (le-ltb (c .epoch + 1) 0 (omega arith))))
+        (down-restarts catalogueText (m .log) (i .parsed) n (logCut n ∷ h) (i .log-side) (i .of-history) (pos (c .epoch + 1)) firstPid lastPid (rw (le-ltb (c .epoch + 1) 0 (omega arith))))
 
     pub cut-accepted : cuts kept m .reply .number ≡ 0
     cut-accepted = rw (le-ltb (logEnd c) n low, answered-number number []) reopened

@@ -28,11 +28,11 @@ use Rattle.server.specs.Lines.{catalogueText}
 use Rattle.runs.specs.World.{World, Leader, Carrying, Accepted, openLeader, openLeaders, nothing, own, callRead, start, run}
 use Rattle.runs.specs.History.{History}
 use Rattle.runs.proofs.Run.{run-append}
-use Rattle.restart.proofs.Invariant.{Invariant}
-use Rattle.restart.proofs.Start.{start-invariant}
-use Rattle.restart.proofs.Steps.{run-reached, always}
+use Rattle.agreement.proofs.Invariant.{Invariant}
+use Rattle.agreement.proofs.Start.{start-invariant}
+use Rattle.agreement.proofs.Steps.{run-reached, always}
 use Rattle.restart.proofs.Demand3.{demand-3}
-use Rattle.restart.proofs.Committed.{in-every-run}
+use Rattle.restart.proofs.InEveryRun.{in-every-run}
 use Rattle.command.specs.declared.Command.{Command}
 use Rattle.command.specs.declared.Command.the-variants.{Init, Add, End, Tick, Flush, Put, Carry, Read, Cut, Unknown}
 use Rattle.session.specs.Limits.{firstPid, lastPid, firstEpoch}

@@ -17,8 +17,8 @@ use Rattle.server.specs.Produce.{produce}
 use Rattle.server.proofs.ProduceCases.{produce-fits}
 use Rattle.runs.specs.History.{History, Event}
 use Rattle.runs.specs.World.{Leader, openLeader, Carrying, nothing, leaderDoes, own, call, callProduce, callRead, inLists, isAck, run}
-use Rattle.restart.proofs.Invariant.{Invariant}
-use Rattle.restart.proofs.Good.{log-of}
+use Rattle.agreement.proofs.Invariant.{Invariant}
+use Rattle.agreement.proofs.Preserves.{log-of}
 use Rattle.session.specs.Limits.{partitions}
 use Rattle.session.specs.Memory.{Memory, memory, indexOf, partitionAt, wordsAt, serverAt, withServer}
 use Rattle.session.proofs.Made.{own-words}

@@ -1,0 +1,1 @@
+// What holds of every history that the protocol allows, as definitions and theorems: the crate has no functions.
