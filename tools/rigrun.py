@@ -1,5 +1,5 @@
 #!/usr/bin/env python3
-"""Says what rigrun should answer to a script, from document 01 and docs/DECISIONS.md 45, and not from the proved code.
+"""Says what rigrun should answer to a script, from document 01 and docs/DECISIONS.md, The listing, and not from the proved code.
 
     tools/rigrun.py < SCRIPT
 
