@@ -1,11 +1,8 @@
 // Reads command lines and writes what each is: its word, where its name stands, and the numbers of its fields, in lines of the listing's form.
 use command::Command;
 use command::Part;
-use libc::STDIN_FILENO;
+use input_lines::Step;
 use libc::STDOUT_FILENO;
-use lines::Cursor;
-use lines::Last;
-use lines::Next;
 use listing::Rendered;
 use listing::Reply;
 use listing::Results;
@@ -125,83 +122,28 @@ fn print_command(c: Command) {
     }
 }
 
-// Writes what a part of the buffer is.
-fn print_part(buffer: &[u8], from: usize, len: usize) {
-    if from <= buffer.len() {
-        if len <= buffer.len() - from {
-            let end = from + len;
-            print_command(command::parse(&buffer[from..end]));
+// Writes what a line is that was read. One that did not fit the buffer is no command.
+fn print_step(buffer: &[u8], step: Step) {
+    match step {
+        Step::Line { from, len, rest: _ } => {
+            print_command(command::parse(input_lines::part(buffer, from, len)))
         }
-    }
-}
-
-// Writes the lines that end in the buffer. Each has a line feed, so there are at most as many as it has bytes.
-fn print_lines(buffer: &[u8], start: Cursor) -> Cursor {
-    let mut cursor = start;
-    let mut turns = buffer.len();
-    while 0 < turns {
-        match lines::next_line(buffer, cursor) {
-            Next::Line { from, len, rest } => {
-                print_part(buffer, from, len);
-                cursor = rest;
-            }
-            Next::Long { rest } => {
-                print_command(Command::Unknown);
-                cursor = rest;
-            }
-            Next::More => {
-                return cursor;
-            }
-        }
-        turns -= 1;
-    }
-    cursor
-}
-
-// Writes what is left at the end.
-fn print_last(buffer: &[u8], cursor: Cursor) {
-    match lines::last_line(buffer, cursor) {
-        Last::Line { from, len } => print_part(buffer, from, len),
-        Last::Long => print_command(Command::Unknown),
-        Last::Nothing => (),
-    }
-}
-
-// Reads a part behind what is kept; the same cursor if there is no more.
-fn read_part(buffer: &mut [u8], kept: Cursor) -> Cursor {
-    let end = kept.end;
-    if buffer.len() < end {
-        return kept;
-    }
-    let got = libc::read(STDIN_FILENO, &mut buffer[end..]);
-    let n = io::count(got, &buffer[end..]);
-    if buffer.len() - end < n {
-        return kept;
-    }
-    Cursor {
-        from: 0,
-        end: end + n,
-        skipping: kept.skipping,
+        Step::Long { rest: _ } => print_command(Command::Unknown),
+        _ => (),
     }
 }
 
 fn main() {
     let mut buffer = [0u8; LINE_ROOM];
-    let mut cursor = Cursor {
-        from: 0,
-        end: 0,
-        skipping: false,
-    };
+    let mut cursor = input_lines::start();
     let mut turns = u64::MAX;
     while 0 < turns {
-        cursor = lines::keep(&mut buffer, cursor);
-        let end = cursor.end;
-        cursor = read_part(&mut buffer, cursor);
-        if cursor.end == end {
-            print_last(&buffer, cursor);
+        let step = input_lines::next(&mut buffer, cursor);
+        if input_lines::is_end(step) {
             return;
         }
-        cursor = print_lines(&buffer, cursor);
+        print_step(&buffer, step);
+        cursor = input_lines::behind(step);
         turns -= 1;
     }
 }

@@ -1,4 +1,4 @@
--- The answer line of a command: document 01, Listing, and docs/DECISIONS.md 45.
+-- The answer line of a command: document 01, Listing, and docs/DECISIONS.md, The listing.
 use Prim.Native.Nat.{ℕ}
 use mathlib.Core.Bool.{Bool, true, false, cond}
 use mathlib.Core.List.{List, [], _∷_, map}

@@ -2,45 +2,41 @@
 use mathlib.Core.Path.{_≡_}
 use lib.ListN.{length}
 use borrow.Author.Needs.{needs}
-use native.Mathlib.Omega.{arith}
 use Rattle.command_lines.proofs.main.Statement.{statement}
 use Rattle.command_lines.proofs.main.Tie as tie
 
 abbrev Inv-loop : tie.InvT-loop
-Inv-loop buffer₀ cursor₀ turns₀ buffer cursor turns = length buffer ≡ 64
+Inv-loop buffer₀ cursor₀ turns₀ buffer cursor turns = length buffer ≡ length buffer₀
 
 abbrev μ-loop : tie.MeasureT-loop
 μ-loop buffer₀ cursor₀ turns₀ buffer cursor turns = turns
 
+start-requires : tie.Need-start-requires Inv-loop μ-loop
+start-requires c κs = search needs
+
 loop-holds : tie.Need-loop-holds Inv-loop μ-loop
 loop-holds c = search needs
 
-slice-aggregate-keep : tie.Need-slice-aggregate-keep Inv-loop μ-loop
-slice-aggregate-keep c = search needs
+slice-aggregate-next : tie.Need-slice-aggregate-next Inv-loop μ-loop
+slice-aggregate-next c = search needs
 
-keep-requires : tie.Need-keep-requires Inv-loop μ-loop
-keep-requires c κs = search needs
+next-requires : tie.Need-next-requires Inv-loop μ-loop
+next-requires c κs = search needs
 
-slice-aggregate-read-part : tie.Need-slice-aggregate-read-part Inv-loop μ-loop
-slice-aggregate-read-part c = search needs
-
-read-part-requires : tie.Need-read-part-requires Inv-loop μ-loop
-read-part-requires c κs = search needs
-
-slice-aggregate-print-last : tie.Need-slice-aggregate-print-last Inv-loop μ-loop
-slice-aggregate-print-last c = search needs
-
-print-last-requires : tie.Need-print-last-requires Inv-loop μ-loop
-print-last-requires c κs = search needs
+is-end-requires : tie.Need-is-end-requires Inv-loop μ-loop
+is-end-requires c κs = search needs
 
 returns : tie.Need-returns Inv-loop μ-loop
 returns c = search needs
 
-slice-aggregate-print-lines : tie.Need-slice-aggregate-print-lines Inv-loop μ-loop
-slice-aggregate-print-lines c = search needs
+slice-aggregate-print-step : tie.Need-slice-aggregate-print-step Inv-loop μ-loop
+slice-aggregate-print-step c = search needs
 
-print-lines-requires : tie.Need-print-lines-requires Inv-loop μ-loop
-print-lines-requires c κs = search needs
+print-step-requires : tie.Need-print-step-requires Inv-loop μ-loop
+print-step-requires c κs = search needs
+
+behind-requires : tie.Need-behind-requires Inv-loop μ-loop
+behind-requires c κs = search needs
 
 sub-turns : tie.Need-sub-turns Inv-loop μ-loop
 sub-turns c = search needs
@@ -60,16 +56,15 @@ main-spec =
     (tie.spec
     Inv-loop
     μ-loop
+    start-requires
     loop-holds
-    slice-aggregate-keep
-    keep-requires
-    slice-aggregate-read-part
-    read-part-requires
-    slice-aggregate-print-last
-    print-last-requires
+    slice-aggregate-next
+    next-requires
+    is-end-requires
     returns
-    slice-aggregate-print-lines
-    print-lines-requires
+    slice-aggregate-print-step
+    print-step-requires
+    behind-requires
     sub-turns
     loop-less
     loop-again

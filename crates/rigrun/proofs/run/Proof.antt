@@ -1,8 +1,8 @@
 -- `rigrun::run` meets its contract.
 use mathlib.Core.Path.{_≡_}
 use lib.ListN.{length}
-use borrow.Author.Needs.{needs}
 use native.Mathlib.Omega.{arith}
+use borrow.Author.Needs.{needs}
 use Rattle.rigrun.proofs.run.Statement.{statement}
 use Rattle.rigrun.proofs.run.Tie as tie
 
@@ -16,11 +16,17 @@ abbrev μ-loop : tie.MeasureT-loop
 opened-requires : tie.Need-opened-requires Inv-loop μ-loop
 opened-requires c κs = search needs
 
+start-requires : tie.Need-start-requires Inv-loop μ-loop
+start-requires c κs = search needs
+
 loop-holds : tie.Need-loop-holds Inv-loop μ-loop
 loop-holds c = search needs
 
-answer-read-requires : tie.Need-answer-read-requires Inv-loop μ-loop
-answer-read-requires c κs = search needs
+next-requires : tie.Need-next-requires Inv-loop μ-loop
+next-requires c κs = search needs
+
+is-end-requires : tie.Need-is-end-requires Inv-loop μ-loop
+is-end-requires c κs = search needs
 
 same-length : tie.Need-same-length Inv-loop μ-loop
 same-length c = search needs
@@ -37,6 +43,12 @@ same-length-4 c = search needs
 returns : tie.Need-returns Inv-loop μ-loop
 returns c = search needs
 
+answer-step-requires : tie.Need-answer-step-requires Inv-loop μ-loop
+answer-step-requires c κs = search needs
+
+behind-requires : tie.Need-behind-requires Inv-loop μ-loop
+behind-requires c κs = search needs
+
 sub-turns : tie.Need-sub-turns Inv-loop μ-loop
 sub-turns c = search needs
 
@@ -44,7 +56,13 @@ loop-less : tie.Need-loop-less Inv-loop μ-loop
 loop-less c = search needs
 
 loop-again : tie.Need-loop-again Inv-loop μ-loop
-loop-again c = search needs
+loop-again c =
+    let a = c .before .before .before .before .before .before .before in
+    let n = a .before .before .before .before .before .before .before .before .before in
+    let l = n .before .before .before in
+    let i = l .loop .inv in
+    let k = a .answer-step .kept .1 .1 .1 in
+    (omega (arith, n .next .kept .0, i .0), omega (arith, k .0, i .1), omega (arith, k .1 .0, i .2), omega (arith, k .1 .1 .0, i .3))
 
 same-length-5 : tie.Need-same-length-5 Inv-loop μ-loop
 same-length-5 c = search needs
@@ -68,13 +86,17 @@ run-spec =
     Inv-loop
     μ-loop
     opened-requires
+    start-requires
     loop-holds
-    answer-read-requires
+    next-requires
+    is-end-requires
     same-length
     same-length-2
     same-length-3
     same-length-4
     returns
+    answer-step-requires
+    behind-requires
     sub-turns
     loop-less
     loop-again

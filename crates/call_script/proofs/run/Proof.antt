@@ -1,26 +1,30 @@
--- `rigrun::answer_lines` meets its contract.
+-- `call_script::run` meets its contract.
 use mathlib.Core.Path.{_≡_}
 use lib.ListN.{length}
 use borrow.Author.Needs.{needs}
-use native.Mathlib.Omega.{arith}
-use Rattle.rigrun.proofs.answer_lines.Statement.{statement}
-use Rattle.rigrun.proofs.answer_lines.Tie as tie
+use Rattle.call_script.proofs.run.Statement.{statement}
+use Rattle.call_script.proofs.run.Tie as tie
 
 abbrev Inv-loop : tie.InvT-loop
-Inv-loop buffer log₀ words₀ payloads₀ session₀ cursor₀ turns₀ log words payloads session cursor turns =
-    (length log ≡ length log₀) × (length words ≡ length words₀) × (length payloads ≡ length payloads₀)
+Inv-loop buffer₀ log₀ words₀ state₀ cursor₀ turns₀ buffer log words state cursor turns = (length buffer ≡ length buffer₀) × (length log ≡ length log₀) × (length words ≡ length words₀)
 
 abbrev μ-loop : tie.MeasureT-loop
-μ-loop buffer log₀ words₀ payloads₀ session₀ cursor₀ turns₀ log words payloads session cursor turns = turns
+μ-loop buffer₀ log₀ words₀ state₀ cursor₀ turns₀ buffer log words state cursor turns = turns
+
+opened-requires : tie.Need-opened-requires Inv-loop μ-loop
+opened-requires c κs = search needs
+
+start-requires : tie.Need-start-requires Inv-loop μ-loop
+start-requires c κs = search needs
 
 loop-holds : tie.Need-loop-holds Inv-loop μ-loop
 loop-holds c = search needs
 
-next-line-requires : tie.Need-next-line-requires Inv-loop μ-loop
-next-line-requires c κs = search needs
+next-requires : tie.Need-next-requires Inv-loop μ-loop
+next-requires c κs = search needs
 
-is-more-requires : tie.Need-is-more-requires Inv-loop μ-loop
-is-more-requires c κs = search needs
+is-end-requires : tie.Need-is-end-requires Inv-loop μ-loop
+is-end-requires c κs = search needs
 
 same-length : tie.Need-same-length Inv-loop μ-loop
 same-length c = search needs
@@ -34,8 +38,8 @@ same-length-3 c = search needs
 returns : tie.Need-returns Inv-loop μ-loop
 returns c = search needs
 
-answer-next-requires : tie.Need-answer-next-requires Inv-loop μ-loop
-answer-next-requires c κs = search needs
+perform-step-requires : tie.Need-perform-step-requires Inv-loop μ-loop
+perform-step-requires c κs = search needs
 
 behind-requires : tie.Need-behind-requires Inv-loop μ-loop
 behind-requires c κs = search needs
@@ -61,20 +65,22 @@ same-length-6 c = search needs
 returns-2 : tie.Need-returns-2 Inv-loop μ-loop
 returns-2 c = search needs
 
-pub answer-lines-spec : {M : Type 1} → statement M
-answer-lines-spec =
+pub run-spec : {M : Type 1} → statement M
+run-spec =
     tie.close
     (tie.spec
     Inv-loop
     μ-loop
+    opened-requires
+    start-requires
     loop-holds
-    next-line-requires
-    is-more-requires
+    next-requires
+    is-end-requires
     same-length
     same-length-2
     same-length-3
     returns
-    answer-next-requires
+    perform-step-requires
     behind-requires
     sub-turns
     loop-less
