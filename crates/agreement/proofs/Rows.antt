@@ -115,7 +115,7 @@ module _ (c : Catalogue) (h : History) (t : HistoryInvariant c h) where
               let n : producerAt p i .pid ≡ noPid → ⊥ = λ z. omega arith in
               let b = known i n in
               absurd (omega (arith, ap toNat is))
-          here i e (kept l s f g) q =
+          here i e (kept l s f g _) q =
               let starts = latest-starts c (recordsOf h) (t .come) (r .name) l s in
               let (holding, row) = table-latest c (recordsOf h) (t .come) (t .ends) (r .name) starts l s in
               let at : i ≡ placeIn c (recordsOf h) (r .name) = e ∙ rw holding refl in

@@ -13,14 +13,18 @@ use Rattle.numbers.proofs.Border.{natural-below}
 use Rattle.numbers.proofs.Tests.{not-both}
 use Rattle.catalogue.specs.declared.Catalogue.{Catalogue}
 use Rattle.record.specs.Frame.{frame}
-use Rattle.record.specs.Record.{wellFormed}
+use Rattle.record.specs.Record.{wellFormed, statusCode}
 use Rattle.record.specs.declared.Record.{Record}
+use Rattle.record.specs.declared.Status.{Status}
+use Rattle.record.specs.declared.Status.the-variants.{Empty, Begin, PrepareCommit, PrepareAbort, CompleteCommit, CompleteAbort}
 use Rattle.record.proofs.Bounds.{formed-starts, well-formed-parts}
 use Rattle.search.proofs.Members.{In, in-nil, in-cons}
 use Rattle.search.proofs.Find.{find-in}
 use Rattle.search.proofs.Found.{option-either}
-use Rattle.row.specs.Row.{held}
+use Rattle.row.specs.Row.{held, isPrepare}
+use Rattle.row.specs.Steps.{completeOf}
 use Rattle.row.specs.declared.Row.{Row}
+use Rattle.row.proofs.Laws.{of-prepare}
 use Rattle.succession.specs.Succession.{follows}
 use Rattle.succession.proofs.Laws.{Move, raising, renewing, beginning, widening, committing, aborting, completing, first-new, follows-move}
 use Rattle.table.specs.Next.{mayCome}
@@ -31,16 +35,25 @@ use Rattle.log_reader.specs.Records.{tableOf, allCome}
 use Rattle.log_reader.proofs.RecordLaws.{come-parts, table-newest}
 use Rattle.runs.specs.History.{Logged, contents, isOf}
 use Rattle.runs.specs.Demand3.{Ends}
+use Rattle.runs.specs.InEveryRun.{GivesPid}
 use Rattle.protocol.specs.RecordsOfName.{latestIn}
 use Rattle.protocol.proofs.Cuts.{latest-name}
 use Rattle.protocol.proofs.TableOfRecords.{come-record, table-latest, table-lacks}
 
 -- ---- what a record that may come has for a pid
 
--- a pid above all earlier ones, or that of the latest record of its name, with no lower epoch
+-- a status with a code above 0 is not EMPTY
+not-empty : (s : Status) → 0 < statusCode s → s ≡ Empty → ⊥
+not-empty s h e = let z : statusCode s ≡ 0 = ap statusCode e in omega arith
+
+complete-not-empty : (s : Status) → isPrepare s ≡ true → completeOf s ≡ Empty → ⊥
+complete-not-empty = of-prepare (λ s. completeOf s ≡ Empty → ⊥) (not-empty CompleteCommit (omega arith)) (not-empty CompleteAbort (omega arith))
+
+-- a pid above all earlier ones, or that of the latest record of its name, with no lower epoch, and a higher one if it is EMPTY
 pub data PidFrom (next : ℕ) (x : Record) (l : List Logged) : Type 0 where
   fresh : (pid : ℕ) → x .pid ≡ pos pid → next ≤ pid → PidFrom next x l
-  kept : (r : Logged) → latestIn (x .name) l ≡ some r → x .pid ≡ r .content .pid → toNat (r .content .epoch) ≤ toNat (x .epoch) → PidFrom next x l
+  kept : (r : Logged) → latestIn (x .name) l ≡ some r → x .pid ≡ r .content .pid → toNat (r .content .epoch) ≤ toNat (x .epoch)
+      → (x .status ≡ Empty → 0 < toNat (x .epoch)) → PidFrom next x l
 
 pub pid-from : (c : Catalogue) (l : List Logged) → allCome c emptyTable (contents l) ≡ true → Ends c l → (x : Record) → wellFormed c x ≡ true → mayCome (tableOf c (contents l)) x ≡ true
     → PidFrom (tableOf c (contents l) .next) x l
@@ -54,13 +67,13 @@ pid-from c l e h x w m =
     come-either t x m (λ y f. go r i (natural .0) (natural .1) (follows-move (t .next) (held (r .content) (r .end)) x (subst (λ (row : Row). follows (t .next) row x ≡ true) q f))) (λ y f k. not-both y p))
   where
     go : (r : Logged) → latestIn (x .name) l ≡ some r → (n : ℕ) → r .content .pid ≡ pos n → Move (tableOf c (contents l) .next) (held (r .content) (r .end)) x → PidFrom (tableOf c (contents l) .next) x l
-    go r i n is (raising a b m) = kept r i (m .pid-kept ∙ rw is refl) (rw (m .epoch-next) (omega arith))
+    go r i n is (raising a b m) = kept r i (m .pid-kept ∙ rw is refl) (rw (m .epoch-next) (omega arith)) (λ e. rw (m .epoch-next) (omega arith))
     go r i n is (renewing a b m) = fresh (m .producer .pid) (m .producer .pid-is) (m .producer .pid-above)
-    go r i n is (beginning a b m) = kept r i (m .pid-kept ∙ rw is refl) (rw (m .epoch-kept) (omega arith))
-    go r i n is (widening a b m) = kept r i (m .pid-kept ∙ rw is refl) (rw (m .epoch-kept) (omega arith))
-    go r i n is (committing a b m) = kept r i (m .pid-kept ∙ rw is refl) (rw (m .epoch-is) (omega arith))
-    go r i n is (aborting a b m) = kept r i (m .prepare .pid-kept ∙ rw is refl) (rw (m .prepare .epoch-is) (m .epoch-least))
-    go r i n is (completing a b m) = kept r i (m .pid-kept ∙ rw is refl) (rw (m .epoch-kept) (omega arith))
+    go r i n is (beginning a b m) = kept r i (m .pid-kept ∙ rw is refl) (rw (m .epoch-kept) (omega arith)) (λ e. absurd (not-empty Begin (omega arith) (sym b ∙ e)))
+    go r i n is (widening a b m) = kept r i (m .pid-kept ∙ rw is refl) (rw (m .epoch-kept) (omega arith)) (λ e. absurd (not-empty Begin (omega arith) (sym b ∙ e)))
+    go r i n is (committing a b m) = kept r i (m .pid-kept ∙ rw is refl) (rw (m .epoch-is) (omega arith)) (λ e. absurd (not-empty PrepareCommit (omega arith) (sym b ∙ e)))
+    go r i n is (aborting a b m) = kept r i (m .prepare .pid-kept ∙ rw is refl) (rw (m .prepare .epoch-is) (m .epoch-least)) (λ e. absurd (not-empty PrepareAbort (omega arith) (sym b ∙ e)))
+    go r i n is (completing a b m) = kept r i (m .pid-kept ∙ rw is refl) (rw (m .epoch-kept) (omega arith)) (λ e. absurd (complete-not-empty (r .content .status) a (sym b ∙ e)))
 
 -- ---- pids of a log
 
@@ -96,4 +109,23 @@ module _ (c : Catalogue) where
           let below = pid-below l o y k in
           let same : toNat (y .content .pid) ≡ pid = ap toNat (sym z ∙ is) in
           absurd (omega arith)
-      newest o (kept r s p _) y k f z = sym (latest-name (x .content .name) l r s) ∙ f r (find-in (isOf (x .content .name)) l r s) (sym p ∙ z)
+      newest o (kept r s p _ _) y k f z = sym (latest-name (x .content .name) l r s) ∙ f r (find-in (isOf (x .content .name)) l r s) (sym p ∙ z)
+
+  -- a pid is given once
+  pub pid-given : (l : List Logged) → allCome c emptyTable (contents l) ≡ true → Ends c l → (a b : Logged) → In a l → In b l → GivesPid a → GivesPid b → a .content .pid ≡ b .content .pid
+      → a .number ≡ b .number
+  pid-given [] e h a b i j g k q = in-nil i
+  pid-given (x ∷ l) e (h, hs) a b i j g k q =
+      let (o, w, m) = come-parts c emptyTable (x .content) (contents l) e in
+      let from = pid-from c l o hs (x .content) w m in
+      in-cons i
+      (λ u. in-cons j (λ v. ap (λ (y : Logged). y .number) (sym u ∙ v)) (λ n. absurd (newest o from b n (subst GivesPid (sym u) g) (ap (λ (y : Logged). y .content .pid) u ∙ q))))
+      (λ n. in-cons j (λ v. absurd (newest o from a n (subst GivesPid (sym v) k) (ap (λ (y : Logged). y .content .pid) v ∙ sym q))) (λ p. pid-given l o hs a b n p g k q))
+    where
+      -- the newest record does not give the pid of an older one
+      newest : allCome c emptyTable (contents l) ≡ true → PidFrom (tableOf c (contents l) .next) (x .content) l → (y : Logged) → In y l → GivesPid x → x .content .pid ≡ y .content .pid → ⊥
+      newest o (fresh pid is above) y k g z =
+          let below = pid-below l o y k in
+          let same : toNat (y .content .pid) ≡ pid = ap toNat (sym z ∙ is) in
+          omega arith
+      newest o (kept r s p _ raised) y k g z = let zero : toNat (x .content .epoch) ≡ 0 = ap toNat (g .epoch) in let h = raised (g .status) in omega arith

@@ -22,11 +22,12 @@ use Rattle.partition.specs.Partition.{admits, kindAt, payloadAt, stableEnd}
 use Rattle.partition.specs.Read.{standsUnder, committed, copy, readTests, copied, readAnswer, readOut}
 use Rattle.partition.proofs.Reading.{oldest-most, oldest-row}
 use Rattle.partition.proofs.Reserve.{admits-length}
-use Rattle.runs.specs.History.{Order, Produced, History, producedIn, collect, collectWithBefore, flushedOf, markerOver, wordsOf}
+use Rattle.runs.specs.History.{Order, Produced, History, recordsOf, producedIn, collect, collectWithBefore, flushedOf, markerOver, wordsOf}
 use Rattle.runs.specs.World.{Leader, openLeader, World, catalogueOf, leaderAt, start, run}
-use Rattle.runs.specs.InEveryRun.{entriesBetween, committedBetween, offsets, payloads, ReadsFrom, ReadsCommitted, InEveryRun}
+use Rattle.runs.specs.InEveryRun.{entriesBetween, committedBetween, offsets, payloads, ReadsFrom, ReadsCommitted, PidsOnce, InEveryRun}
 use Rattle.runs.proofs.Admitted.{admits-exactly}
 use Rattle.protocol.specs.Entries.{Entry, entriesOf, underOf}
+use Rattle.protocol.proofs.ProducerIds.{pid-owner, pid-given}
 use Rattle.protocol.proofs.MarkerOver.{under-over, over-commit, over-some}
 use Rattle.agreement.proofs.Invariant.{Invariant}
 use Rattle.agreement.proofs.Rows.{open-owns}
@@ -276,5 +277,24 @@ reads-committed w i =
           (λ x. let z : 0 + x ≡ x = omega arith in rw z (reads-at w i x));
     }
 
+-- ---- producer ids
+
+pub pids-once : (w : World) → Invariant w → PidsOnce w
+pids-once w i =
+    let h = i .of-history in
+    let l = recordsOf (w .history) in
+    let c = catalogueOf w in
+    record {
+      one-name = in-each _ l (λ x j. in-each _ l (λ y k. pid-owner c l (h .come) (h .ends) x y j k));
+      given-once = in-each _ l (λ x j. in-each _ l (λ y k. pid-given c l (h .come) (h .ends) x y j k));
+    }
+
+-- ---- the theorem
+
 pub in-every-run : InEveryRun
-in-every-run = record { admits-exactly = admits-exactly; reads-committed = λ o a items. reads-committed (run items (start o)) (always o a items) }
+in-every-run =
+    record {
+      admits-exactly = admits-exactly;
+      reads-committed = λ o a items. reads-committed (run items (start o)) (always o a items);
+      pids-once = λ o a items. pids-once (run items (start o)) (always o a items);
+    }

@@ -1,4 +1,5 @@
--- Beside demand 3, in every run: refusal 8 is for a slice of another length and nothing else, and Read answers exactly the payloads under COMMIT.
+-- Beside demand 3, in every run: refusal 8 is for a slice of another length and nothing else, Read answers exactly the payloads under COMMIT, and
+-- no pid is given twice.
 use Prim.Native.Nat.{ℕ, _+_, _≤_, min}
 use mathlib.Core.Path.{_≡_}
 use mathlib.Core.Option.{Option, none, some}
@@ -8,12 +9,13 @@ use lib.Dec.{eqb, leb, ltb}
 use lib.IntN.{pos}
 use lib.ListN.{length, take, getD}
 use Rattle.numbers.specs.Bytes.{laid}
+use Rattle.record.specs.declared.Status.the-variants.{Empty}
 use Rattle.search.specs.Search.{isFound, found, filter, Each, EachAt}
 use Rattle.answers.specs.Answers.{accepted, readReply}
 use Rattle.coordinator.specs.Coordinator.{admits}
 use Rattle.partition.specs.Partition.{stableEnd, admits as partitionAdmits}
 use Rattle.partition.specs.Read.{standsUnder, readAnswer, readOut}
-use Rattle.runs.specs.History.{Order, Produced, producedIn, WithBefore, collectWithBefore, History, markerOver}
+use Rattle.runs.specs.History.{Order, Produced, producedIn, WithBefore, collectWithBefore, History, Logged, recordsOf, markerOver}
 use Rattle.runs.specs.World.{Leader, Phase, up, down, World, leaderAt, FirstOpening, start, Accepted, Item, run}
 
 -- ---- refusal 8
@@ -68,8 +70,24 @@ pub record ReadsCommitted (w : World) : Type 0 where
   pub settled : EachAt (λ x (l : Leader). Each (λ (e : WithBefore Produced). isFound (markerOver (w .history) e) ≡ true) (entriesBetween x 0 (stableEnd (l .partition)) (w .history))) 0 (w .leaders)
   pub reads : EachAt (λ x (l : Leader). (from : ℕ) → from ≤ stableEnd (l .partition) → (out : List ℕ) → ReadsFrom w x l from out) 0 (w .leaders)
 
+-- ---- producer ids
+
+-- a record that gives a new pid: "status 0, epoch 0, pid above all earlier ones"
+pub record GivesPid (x : Logged) : Type 0 where
+  pub status : x .content .status ≡ Empty
+  pub epoch : x .content .epoch ≡ pos 0
+
+-- Of the records that were appended and that no cut has undone.
+-- Not met by an Init that gives a pid of its block again, nor by one that gives two names the same pid.
+pub record PidsOnce (w : World) : Type 0 where
+  -- no two names hold one pid
+  pub one-name : Each (λ (x : Logged). Each (λ (y : Logged). x .content .pid ≡ y .content .pid → x .content .name ≡ y .content .name) (recordsOf (w .history))) (recordsOf (w .history))
+  -- no pid is given twice
+  pub given-once : Each (λ (x : Logged). Each (λ (y : Logged). GivesPid x → GivesPid y → x .content .pid ≡ y .content .pid → x .number ≡ y .number) (recordsOf (w .history))) (recordsOf (w .history))
+
 -- ---- the statement
 
 pub record InEveryRun : Type 0 where
   pub admits-exactly : (o : FirstOpening) → Accepted o → (items : List Item) → AdmitsExactly (run items (start o))
   pub reads-committed : (o : FirstOpening) → Accepted o → (items : List Item) → ReadsCommitted (run items (start o))
+  pub pids-once : (o : FirstOpening) → Accepted o → (items : List Item) → PidsOnce (run items (start o))
