@@ -9,7 +9,7 @@ use native.Mathlib.Omega.{arith}
 use lib.IntN.{pos}
 use lib.ListN.{length}
 use borrow.Author.Tests.{leb-true, eq-eqb}
-use Rattle.numbers.proofs.Border.{at-least, eqZ-is, natural-pos}
+use Rattle.numbers.proofs.Signed.{at-least, eqZ-is, natural-pos}
 use Rattle.numbers.proofs.Tests.{by-cases}
 use Rattle.bits.specs.Bits.{member}
 use Rattle.bits.proofs.Laws.{member-below, last-left}
@@ -31,8 +31,8 @@ use Rattle.coordinator.specs.Ack.{lastOutstanding, ackTests, ackRowTests, ackAc
 use Rattle.coordinator.specs.declared.Coordinator.{Coordinator}
 use Rattle.coordinator.specs.Calls.{ackCall}
 use Rattle.coordinator.proofs.AckCases.{ack-passed}
-use Rattle.writer.proofs.Decisions.{byCall}
-use Rattle.writer.proofs.Written.{written-admits}
+use Rattle.writable_logs.proofs.Decisions.{byCall}
+use Rattle.writable_logs.proofs.Written.{written-admits}
 use Rattle.runs.specs.History.{Order, orderCarried, History, Logged, recordsOf, contents, flushedOf, latestOf}
 use Rattle.runs.specs.World.{up, nothing, World, catalogueOf, withCarrying, withEvent, coordinatorDoes}
 use Rattle.runs.proofs.Admitted.{Own}

@@ -12,10 +12,10 @@ use lib.ListN.{length, take, getD, set}
 use lib.Seq.{getD-set-same, getD-set-other, set-getD}
 use lib.Signed.{ltZ}
 use borrow.Author.Tests.{ltb-true, lt-leb, le-ltb, eq-eqb, ne-eqb, eqb-true, eqb-false}
-use Rattle.numbers.specs.Border.{toNat}
-use Rattle.numbers.specs.Bytes.{laid}
+use Rattle.numbers.specs.Signed.{toNat}
+use Rattle.numbers.specs.Bytes.{overwrite}
 use Rattle.numbers.proofs.Tests.{not-both, either}
-use Rattle.numbers.proofs.Border.{at-least}
+use Rattle.numbers.proofs.Signed.{at-least}
 use Rattle.numbers.proofs.Bytes.{take-through}
 use Rattle.bits.specs.Bits.{member}
 use Rattle.bits.proofs.Laws.{member-is, member-true, subset-from}
@@ -271,14 +271,14 @@ module _ (w : World) (i : Invariant w) (s : Coordinator) (u : w .phase ≡ up s)
         four : List ℕ
         four = markerEntry (producerAt p k0 .pid) (toNat (o .epoch)) (o .verdict) (toNat (o .coordinator))
 
-        new-words : take (entryWords * (p .end + 1)) (laid words (entryWords * p .end) four) ≡ wordsOf x (markerWritten o ∷ h)
+        new-words : take (entryWords * (p .end + 1)) (overwrite words (entryWords * p .end) four) ≡ wordsOf x (markerWritten o ∷ h)
         new-words =
             let own = own-at w (i .own) x in
             let admitted : admits p (length words) ≡ true = admits-length p (own .reserved) (length words) ∙ eq-eqb (length words) (p .room) (own .room) in
             let fits : entryWords * p .end + entryWords ≤ length words = entry-fits p (length words) admitted k0 d in
             let size : entryWords * (p .end + 1) ≡ entryWords * p .end + length four = omega arith in
             let four-is : wordsIn x (markerWritten o) ≡ four = rw (eq-eqb x x refl, ← e) refl in
-            ap (λ (m : ℕ). take m (laid words (entryWords * p .end) four)) size ∙ take-through words (entryWords * p .end) four fits
+            ap (λ (m : ℕ). take m (overwrite words (entryWords * p .end) four)) size ∙ take-through words (entryWords * p .end) four fits
             ∙ ap (λ (a : List ℕ). a ++ four) (i .leaders x .words) ∙ ap (λ (b : List ℕ). wordsOf x h ++ b) (sym four-is) ∙ sym (words-next x (markerWritten o) h)
 
         none-left : NoneOpen c (markerWritten o ∷ h) (recordsOf (markerWritten o ∷ h)) x k0

@@ -36,7 +36,7 @@ use Rattle.coordinator.proofs.InitCases.{init-passed}
 use Rattle.coordinator.proofs.AddCases.{add-passed}
 use Rattle.coordinator.proofs.EndCases.{end-passed}
 use Rattle.coordinator.proofs.TickCases.{overdue-found}
-use Rattle.writer.proofs.Lawful.{Ready}
+use Rattle.writable_logs.proofs.Lawful.{Ready}
 use Rattle.runs.specs.World.{isAck}
 
 -- what a name's row must be for a record of it to be appended

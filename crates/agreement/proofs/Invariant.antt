@@ -14,7 +14,7 @@ use mathlib.Core.Bool.{true, false}
 use mathlib.Core.List.{List}
 use lib.IntN.{pos}
 use lib.ListN.{length, take}
-use Rattle.numbers.specs.Border.{toNat}
+use Rattle.numbers.specs.Signed.{toNat}
 use Rattle.bits.specs.Bits.{member}
 use Rattle.catalogue.specs.Catalogue.{parse}
 use Rattle.catalogue.specs.Limits.{positions}
@@ -27,7 +27,7 @@ use Rattle.table.specs.Table.{rowAt, placeOf}
 use Rattle.log_reader.specs.Records.{tableOf, wholeIn}
 use Rattle.coordinator.specs.Coordinator.{logEnd}
 use Rattle.coordinator.specs.declared.Coordinator.{Coordinator}
-use Rattle.writer.proofs.Written.{Written}
+use Rattle.writable_logs.proofs.Written.{Written}
 use Rattle.partition.specs.Limits.{entryWords, noPid}
 use Rattle.partition.specs.Partition.{producerAt}
 use Rattle.partition.specs.declared.Partition.{Partition}

@@ -23,8 +23,8 @@ use Rattle.table.proofs.Unacknowledged.{unacknowledged, plain-row, plain-place}
 use Rattle.log_reader.specs.Records.{tableOf}
 use Rattle.coordinator.specs.Coordinator.{logEnd, rowFrame, unflushed}
 use Rattle.coordinator.specs.declared.Coordinator.{Coordinator}
-use Rattle.writer.proofs.Lawful.{Ready, ComesNext}
-use Rattle.writer.proofs.Written.{written-ready, written-end}
+use Rattle.writable_logs.proofs.Lawful.{Ready, ComesNext}
+use Rattle.writable_logs.proofs.Written.{written-ready, written-end}
 use Rattle.runs.specs.History.{History, Logged, recordsOf, contents, endOf, flushedOf, isFlushed, latestOf, isOf}
 use Rattle.protocol.specs.HistoryInvariant.{HistoryInvariant}
 use Rattle.protocol.specs.NextEvent.{NothingOpen, Appendable}

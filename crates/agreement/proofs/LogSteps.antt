@@ -21,11 +21,11 @@ use Rattle.coordinator.specs.Open.{opening, takenOver}
 use Rattle.coordinator.specs.declared.Coordinator.{Coordinator}
 use Rattle.coordinator.specs.declared.OpenedLog.{OpenedLog}
 use Rattle.coordinator.proofs.OpenCases.{open-number, opening-taken}
-use Rattle.writer.specs.Writer.{openingTyped, outOfOrder}
-use Rattle.writer.proofs.Decisions.{Decided}
-use Rattle.writer.proofs.Lawful.{Lawful}
-use Rattle.writer.proofs.Written.{Written, recordsAfter, written-acts, written-end}
-use Rattle.writer.proofs.Reopening.{written-taken, written-opens, written-restarts}
+use Rattle.writable_logs.specs.Writer.{openingTyped, outOfOrder}
+use Rattle.writable_logs.proofs.Decisions.{Decided}
+use Rattle.writable_logs.proofs.Lawful.{Lawful}
+use Rattle.writable_logs.proofs.Written.{Written, recordsAfter, written-acts, written-end}
+use Rattle.writable_logs.proofs.Reopening.{written-taken, written-opens, written-restarts}
 use Rattle.runs.specs.History.{History, logFlushed, logCut, logOpened, recordsOf, contents, endOf, flushedOf}
 use Rattle.runs.specs.World.{historyAfter}
 use Rattle.protocol.specs.HistoryInvariant.{HistoryInvariant}

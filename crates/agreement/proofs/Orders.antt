@@ -10,8 +10,8 @@ use lib.Dec.{ltb}
 use lib.ListN.{length}
 use mir.Syntax.{w16, w32, w64}
 use borrow.Author.Tests.{ltb-true, ltb-false, le-leb}
-use Rattle.numbers.specs.Border.{signedOf}
-use Rattle.numbers.proofs.Border.{natural-back}
+use Rattle.numbers.specs.Signed.{signedOf}
+use Rattle.numbers.proofs.Signed.{natural-back}
 use Rattle.numbers.proofs.Tests.{either}
 use Rattle.bits.specs.Bits.{Member, member, lowest}
 use Rattle.bits.proofs.Laws.{member-is, lowest-member, left-parts, subset-and, subset-from}

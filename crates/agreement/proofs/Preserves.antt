@@ -19,8 +19,8 @@ use Rattle.table.proofs.Unacknowledged.{unacknowledged, plain-place-for}
 use Rattle.coordinator.specs.Coordinator.{logEnd, rowFrame, Action, keep, advance, append, acknowledge as acknowledgeAt, flushTo, acknowledged, after}
 use Rattle.coordinator.specs.declared.Coordinator.{Coordinator}
 use Rattle.coordinator.specs.Calls.{CoordinatorCall, callTyped, actionOf}
-use Rattle.writer.proofs.Decisions.{Decided, byCall}
-use Rattle.writer.proofs.Lawful.{Lawful, decided-lawful, Ready}
+use Rattle.writable_logs.proofs.Decisions.{Decided, byCall}
+use Rattle.writable_logs.proofs.Lawful.{Lawful, decided-lawful, Ready}
 use Rattle.runs.specs.History.{Event, recordAppended, logFlushed, History, recordsOf, contents, flushedOf, wordsIn, Logged, latestOf}
 use Rattle.runs.specs.World.{Leader, Phase, up, down, nothing, World, catalogueOf, leaderAt, withCarrying, historyAfter, coordinatorDoes, isAck, Carrying}
 use Rattle.runs.proofs.Epochs.{epoch-kept}

@@ -11,10 +11,10 @@ use lib.IntN.{ℤ, pos}
 use lib.ListN.{length, take, getD, set, length-set}
 use lib.Seq.{length-take-le, getD-set-same, getD-set-other, set-getD}
 use borrow.Author.Tests.{ltb-true, ltb-false, le-leb, eq-eqb, ne-eqb}
-use Rattle.numbers.specs.Border.{toNat}
-use Rattle.numbers.specs.Bytes.{laid}
+use Rattle.numbers.specs.Signed.{toNat}
+use Rattle.numbers.specs.Bytes.{overwrite}
 use Rattle.numbers.specs.Padded.{padded}
-use Rattle.numbers.proofs.Border.{at-least, natural-pos}
+use Rattle.numbers.proofs.Signed.{at-least, natural-pos}
 use Rattle.numbers.proofs.Bytes.{take-through}
 use Rattle.numbers.proofs.Tests.{by-cases}
 use Rattle.bits.specs.Bits.{member}
@@ -185,11 +185,11 @@ module _ (w : World) (i : Invariant w) (s : Coordinator) (u : w .phase ≡ up s)
     unfolding produced
     four-is = rw (eq-eqb x x refl) (rw (t .same-pid, t .same-epoch) refl)
 
-    new-words : take (entryWords * (p .end + 1)) (laid words (entryWords * p .end) four) ≡ wordsOf x (entryWritten e ∷ h)
+    new-words : take (entryWords * (p .end + 1)) (overwrite words (entryWords * p .end) four) ≡ wordsOf x (entryWritten e ∷ h)
     new-words =
         let fits : entryWords * p .end + length four ≤ length words = data-fits p (length words) (t .admitted) k0 q payload (t .room) in
         let size : entryWords * (p .end + 1) ≡ entryWords * p .end + length four = omega arith in
-        ap (λ (n : ℕ). take n (laid words (entryWords * p .end) four)) size ∙ take-through words (entryWords * p .end) four fits
+        ap (λ (n : ℕ). take n (overwrite words (entryWords * p .end) four)) size ∙ take-through words (entryWords * p .end) four fits
         ∙ ap (λ (a : List ℕ). a ++ four) (i .leaders x .words) ∙ ap (λ (b : List ℕ). wordsOf x h ++ b) (sym four-is) ∙ sym (words-next x (entryWritten e) h)
 
     -- the rows
@@ -219,7 +219,7 @@ module _ (w : World) (i : Invariant w) (s : Coordinator) (u : w .phase ≡ up s)
     writes : Preserves w (leaderDoes x (dataEntry p k0 q payload) (entryWritten e) nothing w)
     unfolding produced
     writes =
-        leader-preserves w i x below (record { partition = p′; words = laid words (entryWords * p .end) four }) nothing (entryWritten e ∷ h) (more still may)
+        leader-preserves w i x below (record { partition = p′; words = overwrite words (entryWords * p .end) four }) nothing (entryWritten e ∷ h) (more still may)
         (rw (more-entries e h) (words-length w i x, i .offsets))
         (log-same c (w .log) (w .phase) h (entryWritten e ∷ h) (entry-records h e .records) (entry-records h e .flushed) (i .log-side))
         (subst (λ (y : Phase). AcksSide c y (entryWritten e ∷ h)) (sym u) (acks-kept c h s (entryWritten e) kept (acks-of w i s u)))

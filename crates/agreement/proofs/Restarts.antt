@@ -9,8 +9,8 @@ use lib.IntN.{ℤ, pos}
 use lib.ListN.{length, take}
 use lib.Signed.{leZ}
 use borrow.Author.Tests.{eqb-true, ne-eqb, leb-true}
-use Rattle.numbers.specs.Border.{toNat}
-use Rattle.numbers.proofs.Border.{at-least}
+use Rattle.numbers.specs.Signed.{toNat}
+use Rattle.numbers.proofs.Signed.{at-least}
 use Rattle.numbers.proofs.Tests.{not-both, and-left, and-right}
 use Rattle.bits.proofs.Laws.{member-nothing}
 use Rattle.catalogue.specs.Catalogue.{parse}
@@ -46,8 +46,8 @@ use Rattle.coordinator.proofs.EndCases.{end-passed}
 use Rattle.coordinator.proofs.TickCases.{tick-passed}
 use Rattle.coordinator.proofs.AckCases.{ack-passed}
 use Rattle.coordinator.proofs.OpenCases.{open-number, opening-taken}
-use Rattle.writer.specs.Writer.{openingTyped}
-use Rattle.writer.proofs.Written.{written-admits}
+use Rattle.writable_logs.specs.Writer.{openingTyped}
+use Rattle.writable_logs.proofs.Written.{written-admits}
 use Rattle.partition.specs.Marker.{markerTests, marker}
 use Rattle.partition.specs.Partition.{admits as partitionAdmits, Action as PartitionAction, keep as keepPartition, after as partitionAfter}
 use Rattle.partition.proofs.MarkerCases.{marker-passed, marker-refused}
@@ -56,7 +56,7 @@ use Rattle.server.specs.Produce.{produceTests, produce}
 use Rattle.server.proofs.ProduceCases.{produce-passed}
 use Rattle.runs.specs.History.{Order, logCut, logOpened, History, recordsOf, contents}
 use Rattle.runs.specs.World.{Phase, up, down, nothing, World, catalogueOf, leaderAt, coordinatorElsewhere, withPhase, withPartition, onceDone}
-use Rattle.runs.proofs.Leaves.{flush-elsewhere}
+use Rattle.runs.proofs.Unchanged.{flush-elsewhere}
 use Rattle.protocol.proofs.WritesNothing.{cut-writes-nothing, opened-writes-nothing}
 use Rattle.agreement.proofs.Invariant.{DownLog, LogSide, epochOf, AcksAgree, Invariant}
 use Rattle.agreement.proofs.LogSteps.{cut-may, cut-down, opened-may, opened-up}

@@ -9,8 +9,8 @@ use lib.Dec.{leb}
 use lib.ListN.{getD}
 use mir.Syntax.{w64}
 use borrow.Author.Tests.{leb-true, leb-false, ne-eqb}
-use Rattle.numbers.specs.Border.{toNat}
-use Rattle.numbers.proofs.Border.{natural-below}
+use Rattle.numbers.specs.Signed.{toNat}
+use Rattle.numbers.proofs.Signed.{natural-below}
 use Rattle.numbers.proofs.Tests.{either}
 use Rattle.catalogue.specs.declared.Catalogue.{Catalogue}
 use Rattle.record.specs.declared.Record.{Record}

@@ -7,7 +7,7 @@ use mathlib.Core.List.{List, _∷_}
 use native.Mathlib.Omega.{arith}
 use lib.Dec.{eqb}
 use borrow.Author.Tests.{eqb-true, eq-eqb}
-use Rattle.numbers.specs.Border.{toNat}
+use Rattle.numbers.specs.Signed.{toNat}
 use Rattle.numbers.proofs.Tests.{and-right, and-both, not-both, either}
 use Rattle.catalogue.specs.declared.Catalogue.{Catalogue}
 use Rattle.search.proofs.Each.{but-at}

@@ -33,10 +33,10 @@ use Rattle.coordinator.specs.Coordinator.{logEnd}
 use Rattle.coordinator.specs.Open.{takeOverTests, openTests, opening}
 use Rattle.coordinator.specs.declared.OpenedLog.{OpenedLog}
 use Rattle.coordinator.proofs.OpenCases.{open-number, opening-taken}
-use Rattle.writer.specs.Writer.{AcceptedOpening}
-use Rattle.writer.proofs.Reached.{opened-catalogue}
-use Rattle.writer.proofs.Reopening.{written-opened}
-use Rattle.writer.proofs.Written.{written-end}
+use Rattle.writable_logs.specs.Writer.{AcceptedOpening}
+use Rattle.writable_logs.proofs.Reached.{opened-catalogue}
+use Rattle.writable_logs.proofs.Reopening.{written-opened}
+use Rattle.writable_logs.proofs.Written.{written-end}
 use Rattle.partition.specs.Partition.{openPartition, producerAt, noProducer}
 use Rattle.partition.specs.declared.Producer.{Producer}
 use Rattle.runs.specs.History.{recordAppended, logOpened, History, ordersIn, markersIn, collect, collectWithBefore, recordsOf, contents, endOf, wordsOf}

@@ -8,7 +8,7 @@ use lib.Dec.{eqb, leb}
 use lib.ListN.{length, take, getD, length-append, List·getD-append}
 use lib.Seq.{getD-take, getD-append-add}
 use borrow.Author.Tests.{eq-eqb, leb-true, leb-false}
-use Rattle.numbers.specs.Border.{toNat}
+use Rattle.numbers.specs.Signed.{toNat}
 use Rattle.numbers.proofs.Tests.{by-cases, and-right, either}
 use Rattle.search.specs.Search.{Each}
 use Rattle.search.proofs.Members.{In, in-nil, in-cons}

@@ -9,7 +9,7 @@ use native.Mathlib.Decide.{ℕ-discrete}
 use native.Mathlib.Omega.{arith}
 use lib.Bits.{bitAnd, bitOr, and-shr, or-shr, and-step, or-step, and-block, or-disjoint, and-mask, and-zero-l, and-zero-r, and-comm, or-comm, and-le-l, and-le-r, and-lt, or-lt, or-add-and}
 use lib.Dec.{eqb, ltb}
-use lib.Count.{ones, ones-step, ones-cat, ones-le, trailingZeros, trailing-of-zero, under}
+use lib.Count.{ones, ones-step, ones-cat, ones-le, trailingZeros, under}
 use lib.ListN.{length, length-append}
 use lib.Pow.{pow-pos, pow-lt, pow-mono, ones-sub-lt, shr-shr, shr-lt, split}
 use borrow.Author.Tests.{ltb-true, ltb-false, eqb-true, eqb-false, eq-eqb, ne-eqb}
@@ -244,9 +244,6 @@ trailing-lowest (suc k) x n h =
 
 pub lowest-member : (x : ℕ) → 0 < x → x < 2 ^ 64 → (lowest x < 64) × Member (lowest x) x × ((p : ℕ) → p < lowest x → Member p x → ⊥)
 lowest-member x n h = trailing-lowest 64 x n h
-
-pub lowest-none : lowest 0 ≡ 64
-lowest-none = trailing-of-zero 64
 
 -- ---- how many members
 

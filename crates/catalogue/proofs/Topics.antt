@@ -8,7 +8,7 @@ use native.Mathlib.Decide.{decLt}
 use native.Mathlib.Omega.{arith}
 use lib.ListN.{length, take, drop, getD, replicate, length-append, length-replicate, replicate-append-replicate, List·getD-append}
 use lib.Seq.{take-at, drop-at, drop-drop, append-snoc, getD-append-seam}
-use Rattle.numbers.specs.Bytes.{laid}
+use Rattle.numbers.specs.Bytes.{overwrite}
 use Rattle.numbers.specs.Padded.{untilZero, padded}
 use Rattle.numbers.proofs.Padded.{length-padded, until-padded, drop-zeros}
 use Rattle.catalogue.specs.declared.Catalogue.{Catalogue}
@@ -109,11 +109,11 @@ set-at (l ∷ ls) (suc u) g h =
 pub length-snoc : (ls : List TopicLine) (l : TopicLine) → length (ls ++ (l ∷ [])) ≡ length ls + 1
 length-snoc ls l = length-append ls (l ∷ [])
 
--- a name that is laid over zeros has zeros behind it
-laid-zeros : (f name : List ℕ) (n : ℕ) → length f ≡ 16 * n → n < 8 → length name ≤ 16
-    → laid (f ++ zeros (128 - 16 * n)) (16 * n) name ≡ f ++ padded 16 name ++ zeros (128 - 16 * (n + 1))
-unfolding laid
-laid-zeros f name n e h k =
+-- a name that is written over zeros has zeros behind it
+overwrite-zeros : (f name : List ℕ) (n : ℕ) → length f ≡ 16 * n → n < 8 → length name ≤ 16
+    → overwrite (f ++ zeros (128 - 16 * n)) (16 * n) name ≡ f ++ padded 16 name ++ zeros (128 - 16 * (n + 1))
+unfolding overwrite
+overwrite-zeros f name n e h k =
     let z = zeros (128 - 16 * n) in
     let m : 128 - 16 * n - length name ≡ 16 - length name + (128 - 16 * (n + 1)) = omega arith in
     rw (
@@ -131,8 +131,8 @@ pub with-more : (ls : List TopicLine) (l : TopicLine) → Good ls → GoodLine l
 with-more ls l g k h =
     ap₂ (λ (n : List ℕ) (a : ℕ). record { names = n; all = a }) names (sym (sets-snoc ls l))
   where
-    names : laid (fieldsOf ls ++ zeros (128 - 16 * length ls)) (16 * length ls) (l .name) ≡ fieldsOf (ls ++ (l ∷ [])) ++ zeros (128 - 16 * length (ls ++ (l ∷ [])))
-    names = laid-zeros (fieldsOf ls) (l .name) (length ls) (fields-length ls g) h (k .short) ∙ rw (fields-snoc ls l, length-snoc ls l)
+    names : overwrite (fieldsOf ls ++ zeros (128 - 16 * length ls)) (16 * length ls) (l .name) ≡ fieldsOf (ls ++ (l ∷ [])) ++ zeros (128 - 16 * length (ls ++ (l ∷ [])))
+    names = overwrite-zeros (fieldsOf ls) (l .name) (length ls) (fields-length ls g) h (k .short) ∙ rw (fields-snoc ls l, length-snoc ls l)
 
 -- ---- what the catalogue of good lines holds
 

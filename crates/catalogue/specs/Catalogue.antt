@@ -5,7 +5,7 @@ use mathlib.Core.Bool.{Bool, true, cond, not, _&&_, _||_}
 use mathlib.Core.List.{List, [], _∷_}
 use lib.Dec.{eqb, leb}
 use lib.ListN.{length, getD, take, drop, replicate}
-use Rattle.numbers.specs.Bytes.{laid, same}
+use Rattle.numbers.specs.Bytes.{overwrite, same}
 use Rattle.numbers.specs.Padded.{untilZero}
 use Rattle.catalogue.specs.Limits.{topicsMax, topicNameMax, partitionsMax}
 use Rattle.catalogue.specs.declared.Catalogue.{Catalogue}
@@ -42,7 +42,7 @@ blank = record { names = replicate (topicsMax * topicNameMax) 0; all = 0 }
 -- the catalogue with topic t under a name, with so many partitions
 abbrev pub withTopic : Catalogue → ℕ → List ℕ → ℕ → Catalogue
 withTopic c t name partitions =
-    record { names = laid (c .names) (topicNameMax * t) name; all = c .all + (2 ^ partitions - 1) * 2 ^ (partitionsMax * t) }
+    record { names = overwrite (c .names) (topicNameMax * t) name; all = c .all + (2 ^ partitions - 1) * 2 ^ (partitionsMax * t) }
 
 -- ---- reading a text
 

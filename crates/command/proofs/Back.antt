@@ -1,21 +1,20 @@
 -- The word that is written back is the word that was read.
-use Prim.Native.Nat.{ℕ, zero, suc, _+_, _≤_, _<_}
+use Prim.Native.Nat.{ℕ, _<_}
 use mathlib.Core.Path.{_≡_, refl, sym, ap, _∙_}
 use mathlib.Core.Bool.{Bool, true, false, cond}
-use mathlib.Core.List.{List, [], _∷_}
+use mathlib.Core.List.{List}
 use mathlib.Core.Option.{Option, none, some}
 use native.Mathlib.Nat.{zero-add}
-use native.Mathlib.Omega.{arith}
 use borrow.Author.Tests.{ltb-true, ltb-false}
 use lib.Dec.{eqb, ltb}
 use lib.IntN.{ℤ}
-use lib.ListN.{length, getD, List·getD-eq-default}
+use lib.ListN.{length, List·getD-eq-default}
 use mir.Syntax.{w16, w32, w64}
-use Rattle.numbers.specs.Border.{toNat}
+use Rattle.numbers.specs.Signed.{toNat}
 use Rattle.numbers.specs.Bytes.{same}
 use Rattle.command.specs.Numbers.{signed, unsigned}
 use Rattle.numbers.proofs.Bytes.{same-true}
-use Rattle.search.specs.Search.{firstWhere, EachAt}
+use Rattle.search.specs.Search.{EachAt}
 use Rattle.search.proofs.Laws.{first-found}
 use Rattle.command.specs.Fields.{count, partAt, field}
 use Rattle.command.specs.Words.{words, unknown, rowOf, wordAt}

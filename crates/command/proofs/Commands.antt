@@ -1,6 +1,6 @@
 -- Laws of the commands, by what was read of each field.
 use Prim.Native.Nat.{ℕ}
-use mathlib.Core.Path.{_≡_, refl, sym, ap, _∙_}
+use mathlib.Core.Path.{_≡_, refl, sym, _∙_}
 use mathlib.Core.Bool.{Bool, true, false, cond}
 use mathlib.Core.List.{List}
 use mathlib.Core.Option.{Option, none, some}
@@ -10,13 +10,13 @@ use lib.Dec.{eqb}
 use lib.IntN.{ℤ}
 use mir.Syntax.{w16, w32, w64}
 use mir.Val.{toZ, ofZ}
-use Rattle.numbers.specs.Border.{toNat}
+use Rattle.numbers.specs.Signed.{toNat}
 use Rattle.command.specs.Fields.{count, partAt, field}
 use Rattle.command.specs.Numbers.{signed, unsigned, held16, held32, held64, heldNatural}
-use Rattle.command.specs.Command.{given, changeOfNumbers, heldChange, changeOf, oneNumber, ofFields, uint64, initOf, addOf, endOf, tickOf, flushOf, putOf, carryOf, readOf, cutOf}
+use Rattle.command.specs.Command.{given, changeOfNumbers, heldChange, changeOf, oneNumber, ofFields, uint64, initOf, tickOf, flushOf, putOf}
 use Rattle.command.specs.declared.Part.{Part}
 use Rattle.command.specs.declared.Command.{Command}
-use Rattle.command.specs.declared.Command.the-variants.{Init, Add, End, Tick, Flush, Put, Carry, Read, Cut, Unknown}
+use Rattle.command.specs.declared.Command.the-variants.{Init, Tick, Flush, Put, Unknown}
 use Rattle.command.specs.declared.Change.{Change}
 use Rattle.command.specs.declared.Change.the-variants.{Is, Bad}
 use Rattle.command.specs.declared.Signed16.{Signed16}

@@ -9,11 +9,9 @@ use borrow.Author.Tests.{ltb-false, le-leb, lt-leb, leb-true}
 use lib.Dec.{ltb, leb, leb·zero, leb·suc-zero, leb·suc-suc}
 use lib.IntN.{ℤ, pos, negsuc, negℤ}
 use lib.ListN.{length, drop}
-use Rattle.numbers.specs.Border.{inRange}
+use Rattle.numbers.specs.Signed.{inRange}
 use Rattle.command.specs.Numbers.{naturalOf, negated, natural, hasSign, integerOf, within, heldDigits, heldNumber}
-use Rattle.command.specs.declared.Digits.{Digits}
 use Rattle.command.specs.declared.Digits.the-variants.{Value, Bad as BadDigits}
-use Rattle.command.specs.declared.Number.{Number}
 use Rattle.command.specs.declared.Number.the-variants.{Natural, Negative, Bad}
 
 -- ---- the digits

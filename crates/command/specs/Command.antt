@@ -7,7 +7,7 @@ use lib.Dec.{eqb}
 use lib.IntN.{ℤ}
 use lib.ListN.{getD}
 use mir.Syntax.{w16, w32, w64}
-use Rattle.numbers.specs.Border.{toNat}
+use Rattle.numbers.specs.Signed.{toNat}
 use Rattle.command.specs.Words.{rowOf}
 use Rattle.command.specs.Fields.{count, partAt, field}
 use Rattle.command.specs.Numbers.{signed, unsigned, heldNatural}

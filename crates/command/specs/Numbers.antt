@@ -9,7 +9,7 @@ use lib.IntN.{ℤ, pos, negsuc, negℤ}
 use lib.ListN.{getD, drop}
 use mir.Syntax.{Width}
 use mir.Val.{hbits}
-use Rattle.numbers.specs.Border.{inRange, toNat}
+use Rattle.numbers.specs.Signed.{inRange, toNat}
 use Rattle.search.specs.Search.{all}
 use Rattle.text.specs.Decimal.{valueOf}
 use Rattle.command.specs.declared.Digits.{Digits}

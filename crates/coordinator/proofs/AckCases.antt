@@ -7,7 +7,7 @@ use lib.IntN.{ℤ, pos}
 use lib.ListN.{length}
 use borrow.Author.Tests.{not-false}
 use Rattle.bits.specs.Bits.{member, insert}
-use Rattle.numbers.proofs.Border.{eqZ-true}
+use Rattle.numbers.proofs.Signed.{eqZ-true}
 use Rattle.row.specs.Row.{free, isPrepare, withAcknowledged}
 use Rattle.row.specs.Steps.{completed}
 use Rattle.answers.specs.Refusals.{firstRefusal, numbersOf, among}

@@ -7,8 +7,8 @@ use lib.Dec.{eqb}
 use lib.IntN.{ℤ, pos}
 use borrow.Author.Tests.{eqb-false, ne-eqb, not-false}
 use Rattle.bits.specs.Bits.{subset}
-use Rattle.numbers.specs.Border.{eqZ}
-use Rattle.numbers.proofs.Border.{eqZ-true, eqZ-is, eqZ-false, eqZ-is-not}
+use Rattle.numbers.specs.Signed.{eqZ}
+use Rattle.numbers.proofs.Signed.{eqZ-true, eqZ-is, eqZ-false, eqZ-is-not}
 use Rattle.record.specs.Record.{nameFits}
 use Rattle.row.specs.Limits.{epochMax}
 use Rattle.row.specs.Row.{isBegin, isPrepare}

@@ -5,7 +5,7 @@ use mathlib.Core.Bool.{true, false, not}
 use mathlib.Core.List.{List}
 use lib.IntN.{ℤ, pos}
 use borrow.Author.Tests.{ltb-false, le-ltb, not-false}
-use Rattle.numbers.proofs.Border.{eqZ-true, eqZ-is}
+use Rattle.numbers.proofs.Signed.{eqZ-true, eqZ-is}
 use Rattle.record.specs.Record.{nameFits}
 use Rattle.row.specs.Row.{isBegin, isPrepare}
 use Rattle.row.specs.Steps.{prepared, prepareOf, ended, raise}

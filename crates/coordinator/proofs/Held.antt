@@ -11,9 +11,9 @@ use mir.Syntax.{Width}
 use mir.Val.{SFits, toZ, ofZ}
 use mir.Facts.{toZ-ofZ}
 use borrow.Author.Tests.{ne-eqb, lt-ltb, ltb-true, not-false}
-use Rattle.numbers.specs.Border.{eqZ}
+use Rattle.numbers.specs.Signed.{eqZ}
 use Rattle.numbers.specs.Padded.{padded}
-use Rattle.numbers.proofs.Border.{eqZ-true, eqZ-is}
+use Rattle.numbers.proofs.Signed.{eqZ-true, eqZ-is}
 use Rattle.record.specs.Limits.{nameMax}
 use Rattle.record.specs.Record.{nameFits}
 use Rattle.record.proofs.Bounds.{name-starts}

@@ -7,7 +7,7 @@ use lib.Dec.{ltb}
 use lib.IntN.{ℤ, pos}
 use mir.Syntax.{w16, w64}
 use borrow.Author.Tests.{not-false}
-use Rattle.numbers.specs.Border.{inRange, signedOf, toNat}
+use Rattle.numbers.specs.Signed.{inRange, signedOf, toNat}
 use Rattle.numbers.specs.Padded.{padded}
 use Rattle.record.specs.Limits.{nameMax, timeoutMax}
 use Rattle.record.specs.Record.{nameFits}

@@ -10,8 +10,8 @@ use lib.ListN.{length}
 use mir.Syntax.{w64}
 use mir.Val.{SFits, toZ, ofZ}
 use borrow.Author.Tests.{eq-eqb, ne-eqb, lt-ltb, le-ltb, ltb-true, ltb-false, not-false}
-use Rattle.numbers.specs.Border.{laterOf}
-use Rattle.numbers.proofs.Border.{passed-on}
+use Rattle.numbers.specs.Signed.{laterOf}
+use Rattle.numbers.proofs.Signed.{passed-on}
 use Rattle.numbers.specs.Padded.{padded}
 use Rattle.record.specs.Limits.{nameMax}
 use Rattle.record.specs.Record.{nameFits}

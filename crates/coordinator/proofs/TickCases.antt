@@ -42,6 +42,7 @@ module _ (s : Coordinator) (clock : ℕ) where
         late = ltb-true (row .timeout) (clock - ageFrom row) (search (and-left, and-right) depth 8);
       }
 
+  -- for request 2 of 02
   pub overdue-is : (row : Row) → Overdue row → overdue (s .flushed) clock row ≡ true
   unfolding overdue
   overdue-is row o = rw (o .begins, o .flushed, lt-ltb (row .timeout) (clock - ageFrom row) (o .late))

@@ -5,7 +5,7 @@ use mathlib.Core.List.{List, [], _∷_}
 use lib.Dec.{eqb}
 use lib.IntN.{ℤ, pos}
 use Rattle.bits.specs.Bits.{member, count}
-use Rattle.numbers.specs.Border.{eqZ}
+use Rattle.numbers.specs.Signed.{eqZ}
 use Rattle.row.specs.Row.{free, isPrepare, outstanding}
 use Rattle.row.specs.Steps.{completed}
 use Rattle.row.specs.declared.Row.{Row}

@@ -5,7 +5,7 @@ use mathlib.Core.List.{List, [], _∷_}
 use lib.Dec.{eqb}
 use lib.IntN.{ℤ, pos}
 use Rattle.bits.specs.Bits.{subset}
-use Rattle.numbers.specs.Border.{eqZ}
+use Rattle.numbers.specs.Signed.{eqZ}
 use Rattle.record.specs.Record.{nameFits}
 use Rattle.row.specs.Limits.{epochMax}
 use Rattle.row.specs.Row.{isBegin, isPrepare}

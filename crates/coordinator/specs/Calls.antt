@@ -7,7 +7,7 @@ use lib.Dec.{ltb}
 use lib.IntN.{ℤ}
 use lib.ListN.{length}
 use mir.Syntax.{w16, w32, w64}
-use Rattle.numbers.specs.Border.{fits}
+use Rattle.numbers.specs.Signed.{fits}
 use Rattle.answers.specs.Answers.{Reply, reply, initReply, tickReply}
 use Rattle.answers.specs.Refusals.{Decision}
 use Rattle.coordinator.specs.Coordinator.{Action, after, logAfter}

@@ -4,7 +4,7 @@ use mathlib.Core.Bool.{Bool, true, false, cond, not}
 use mathlib.Core.List.{List, [], _∷_}
 use lib.Dec.{eqb, ltb}
 use lib.IntN.{ℤ, pos}
-use Rattle.numbers.specs.Border.{eqZ}
+use Rattle.numbers.specs.Signed.{eqZ}
 use Rattle.record.specs.Record.{nameFits}
 use Rattle.record.specs.declared.Status.{Status}
 use Rattle.record.specs.declared.Status.the-variants.{Empty, Begin, PrepareCommit, PrepareAbort, CompleteCommit, CompleteAbort}

@@ -5,7 +5,7 @@ use mathlib.Core.List.{List, [], _∷_}
 use lib.Dec.{leb, ltb}
 use lib.IntN.{ℤ, pos}
 use mir.Syntax.{w16, w64}
-use Rattle.numbers.specs.Border.{inRange, signedOf, toNat}
+use Rattle.numbers.specs.Signed.{inRange, signedOf, toNat}
 use Rattle.numbers.specs.Padded.{padded}
 use Rattle.record.specs.Limits.{nameMax, timeoutMax}
 use Rattle.record.specs.Record.{nameFits}

@@ -5,7 +5,7 @@ use mathlib.Core.Bool.{Bool, true, not, _||_}
 use mathlib.Core.List.{List, [], _∷_}
 use lib.Dec.{ltb}
 use lib.IntN.{ℤ, pos}
-use Rattle.numbers.specs.Border.{eqZ}
+use Rattle.numbers.specs.Signed.{eqZ}
 use Rattle.record.specs.Record.{nameFits}
 use Rattle.row.specs.declared.Row.{Row}
 use Rattle.answers.specs.Limits.{places}

@@ -4,7 +4,7 @@ use mathlib.Core.Bool.{Bool, cond, not, _&&_}
 use lib.Dec.{eqb, ltb}
 use mir.Syntax.{w16, w32, w64}
 use Rattle.bits.specs.Bits.{intersection, lowest}
-use Rattle.numbers.specs.Border.{signedOf}
+use Rattle.numbers.specs.Signed.{signedOf}
 use Rattle.search.specs.Search.{firstWhere}
 use Rattle.row.specs.Row.{isPrepare, outstanding}
 use Rattle.row.specs.Steps.{verdictOf}

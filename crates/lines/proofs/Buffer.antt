@@ -4,24 +4,21 @@ use Prim.Native.Nat.{ℕ, zero, suc, _+_, _-_, _≤_, _<_, min}
 use mathlib.Core.Path.{_≡_, refl, sym, ap, ap₂, _∙_, subst}
 use mathlib.Core.Bool.{Bool, true, false, cond, _||_}
 use mathlib.Core.List.{List, [], _∷_, _++_, append-nil}
-use native.Mathlib.Nat.{zero-add}
 use native.Mathlib.Omega.{arith}
-use borrow.Author.Tests.{ltb-true, ltb-false, leb-true, lt-ltb, eq-eqb, ne-eqb, eqb-true, eqb-false, le-leb, lt-leb}
+use borrow.Author.Tests.{ltb-false, lt-ltb, eqb-true, eqb-false, le-leb, lt-leb}
 use lib.Dec.{eqb, ltb, leb}
 use lib.ListN.{length, take, drop, getD, length-take, length-drop}
-use lib.Seq.{split-at, take-all, take-take, length-take-le, drop-drop, take-nil, drop-nil}
-use Rattle.numbers.specs.Bytes.{laid}
-use Rattle.numbers.proofs.Bytes.{take-through, length-laid}
+use lib.Seq.{split-at, take-all, take-take, length-take-le, drop-drop, take-nil}
+use Rattle.numbers.specs.Bytes.{overwrite}
+use Rattle.numbers.proofs.Bytes.{take-through, length-overwrite}
 use Rattle.search.specs.Search.{firstWhere, Each}
-use Rattle.search.proofs.Laws.{first-found, first-before, first-most}
-use Rattle.lines.specs.Text.{isFeed, Line, whole, long, shown, Pending, pending, ended, linesIn, restIn, kept, lastLines}
-use Rattle.lines.specs.Cursor.{foundIn, lineEnd, pendingLength, pendingBytes, cursor, nextAt, nextOf, drops, keptCursor, keptBytes, lastOf}
+use Rattle.search.proofs.Laws.{first-found, first-before}
+use Rattle.lines.specs.Text.{isFeed, Line, whole, long, shown, pending, ended, linesIn, restIn, kept}
+use Rattle.lines.specs.Cursor.{foundIn, lineEnd, pendingLength, pendingBytes, cursor, nextAt, nextOf, drops, keptCursor, keptBytes}
 use Rattle.lines.specs.declared.Found.{Found}
 use Rattle.lines.specs.declared.Found.the-variants.{At, Nothing}
 use Rattle.lines.specs.declared.Cursor.{Cursor}
 use Rattle.lines.specs.declared.Next.the-variants.{Line as NextLine, Long, More}
-use Rattle.lines.specs.declared.Last.{Last}
-use Rattle.lines.specs.declared.Last.the-variants.{Line as LastLine, Long as LastLong, Nothing as LastNothing}
 use Rattle.lines.proofs.Steps.{found-within}
 use Rattle.lines.proofs.Parts.{NoFeed, in-passed, rest-passed, in-feed, rest-feed, in-none, rest-none}
 
@@ -211,41 +208,9 @@ module _ (buffer : List ℕ) (c : Cursor) where
     where
       go : (b : Bool) → drops buffer c ≡ b → let k = cond b (cursor 0 0 true) (cursor 0 (pendingLength (length buffer) c) false) in
           let q = cond b (pending [] true) (pending part (c .skipping)) in
-          (pendingBytes (cond b buffer (laid buffer 0 part)) k ≡ q .bytes) × (k .skipping ≡ q .skipping)
+          (pendingBytes (cond b buffer (overwrite buffer 0 part)) k ≡ q .bytes) × (k .skipping ≡ q .skipping)
       go true e = let z : min (length buffer) 0 - 0 ≡ 0 = omega arith in (rw z, refl)
       go false e =
-          let l : length (laid buffer 0 part) ≡ length buffer = length-laid buffer 0 part (omega (arith, part-most)) in
-          let m : min (length (laid buffer 0 part)) (pendingLength (length buffer) c) - 0 ≡ 0 + length part = omega (arith, part-long, part-most, l) in
-          (ap (λ (k : ℕ). take k (laid buffer 0 part)) m ∙ take-through buffer 0 part (omega (arith, part-most)), sym (or-left (c .skipping) (eqb (pendingLength (length buffer) c) (length buffer)) e))
-
--- a part that is read behind what is kept
-pub read-behind : (buffer : List ℕ) (end : ℕ) (skipping : Bool) (more : List ℕ) → end + length more ≤ length buffer
-    → pendingBytes (laid buffer end more) (cursor 0 (end + length more) skipping) ≡ pendingBytes buffer (cursor 0 end skipping) ++ more
-read-behind buffer end skipping more h =
-    let l : length (laid buffer end more) ≡ length buffer = length-laid buffer end more h in
-    let m : min (length (laid buffer end more)) (end + length more) - 0 ≡ end + length more = omega arith in
-    let k : min (length buffer) end - 0 ≡ end = omega arith in
-    rw (m, k) (take-through buffer end more h)
-
--- ---- the end of the text, after room was made: what is left does not fill the buffer
-
-abbrev pub lastShown : List ℕ → Last → List Line
-lastShown buffer (LastLine from len) = whole (take len (drop from buffer)) ∷ []
-lastShown buffer LastLong = long ∷ []
-lastShown buffer LastNothing = []
-
-pub last-hands : (buffer : List ℕ) (c : Cursor) → length (pendingBytes buffer c) < length buffer
-    → lastLines (length buffer) (pending (pendingBytes buffer c) (c .skipping)) ≡ lastShown buffer (lastOf buffer c)
-unfolding lastOf
-last-hands buffer c h =
-    ap (λ (k : ℕ). cond (c .skipping) (long ∷ []) (cond (eqb k 0) [] (shown (length buffer) (pendingBytes buffer c) ∷ []))) (part-long buffer c)
-    ∙ go (c .skipping) (eqb (pendingLength (length buffer) c) 0)
-  where
-    fit : shown (length buffer) (pendingBytes buffer c) ≡ whole (pendingBytes buffer c)
-    fit = rw (lt-ltb (length (pendingBytes buffer c)) (length buffer) h)
-
-    go : (b e : Bool) → cond b (long ∷ []) (cond e [] (shown (length buffer) (pendingBytes buffer c) ∷ []))
-        ≡ lastShown buffer (cond b LastLong (cond e LastNothing (LastLine (c .from) (pendingLength (length buffer) c))))
-    go true e = refl
-    go false true = refl
-    go false false = ap (λ (l : Line). l ∷ []) fit
+          let l : length (overwrite buffer 0 part) ≡ length buffer = length-overwrite buffer 0 part (omega (arith, part-most)) in
+          let m : min (length (overwrite buffer 0 part)) (pendingLength (length buffer) c) - 0 ≡ 0 + length part = omega (arith, part-long, part-most, l) in
+          (ap (λ (k : ℕ). take k (overwrite buffer 0 part)) m ∙ take-through buffer 0 part (omega (arith, part-most)), sym (or-left (c .skipping) (eqb (pendingLength (length buffer) c) (length buffer)) e))

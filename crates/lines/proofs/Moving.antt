@@ -1,5 +1,5 @@
 -- Laws of the loop that moves bytes to the front.
-use Prim.Native.Nat.{ℕ, suc, _+_, _-_, _≤_, _<_}
+use Prim.Native.Nat.{ℕ, _+_, _-_, _≤_, _<_}
 use mathlib.Core.Path.{_≡_, refl, sym, ap, ap₂, _∙_}
 use mathlib.Core.List.{List, [], _∷_, _++_}
 use native.Mathlib.Nat.{zero-add}
@@ -7,7 +7,7 @@ use native.Mathlib.Numerals.{add-one}
 use native.Mathlib.Omega.{arith}
 use lib.ListN.{length, take, drop, getD, set, take-append-drop, length-drop, length-set}
 use lib.Seq.{take-suc, take-suc-set, drop-set-lt, drop-drop, getD-drop, length-take-le}
-use Rattle.numbers.specs.Bytes.{laid}
+use Rattle.numbers.specs.Bytes.{overwrite}
 
 -- the first i bytes are moved, and those behind them are as they were
 abbrev pub Moved : List ℕ → ℕ → ℕ → List ℕ → Type 0
@@ -39,8 +39,8 @@ module _ (before : List ℕ) (from n : ℕ) (room : from + n ≤ length before) 
             ∙ drop-drop 1 i before,
       )
 
-  pub moved-all : (i : ℕ) (after : List ℕ) → i ≡ n → Moved before from i after → after ≡ laid before 0 (take n (drop from before))
-  unfolding laid
+  pub moved-all : (i : ℕ) (after : List ℕ) → i ≡ n → Moved before from i after → after ≡ overwrite before 0 (take n (drop from before))
+  unfolding overwrite
   moved-all i after e m =
       let l : length (take n (drop from before)) ≡ n = length-take-le n (drop from before) (rw (length-drop from before) (omega arith)) in
       sym (take-append-drop i after)

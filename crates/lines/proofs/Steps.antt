@@ -2,13 +2,13 @@
 use Prim.Native.Nat.{ℕ, _+_, _-_, _≤_, _<_, min}
 use mathlib.Core.Path.{_≡_, refl, sym, ap, _∙_}
 use mathlib.Core.Bool.{Bool, true, false, cond}
-use mathlib.Core.List.{List, []}
+use mathlib.Core.List.{List}
 use native.Mathlib.Omega.{arith}
 use borrow.Author.Tests.{ltb-true, eq-eqb, ne-eqb}
 use lib.Dec.{ltb}
 use lib.ListN.{length, take, drop, length-take, length-drop}
-use Rattle.numbers.specs.Bytes.{laid}
-use Rattle.numbers.proofs.Bytes.{laid-none}
+use Rattle.numbers.specs.Bytes.{overwrite}
+use Rattle.numbers.proofs.Bytes.{overwrite-none}
 use Rattle.search.specs.Search.{firstWhere}
 use Rattle.lines.specs.Text.{isFeed}
 use Rattle.lines.specs.Cursor.{foundIn, lineEnd, pendingLength, cursor, nextAt, nextOf, keptCursor, keptBytes, lastOf}
@@ -80,13 +80,13 @@ module _ (buffer : List ℕ) (c : Cursor) {len : ℕ} (told : len ≡ pendingLen
       unfolding keptCursor
       keep-cursor = rw (s, ne-eqb (pendingLength (length buffer) c) (length buffer) (λ e. d (told ∙ e)), told)
 
-      pub keep-bytes : laid buffer 0 (take len (drop (c .from) buffer)) ≡ keptBytes buffer c
+      pub keep-bytes : overwrite buffer 0 (take len (drop (c .from) buffer)) ≡ keptBytes buffer c
       unfolding keptBytes
       keep-bytes = rw (s, ne-eqb (pendingLength (length buffer) c) (length buffer) (λ e. d (told ∙ e)), told)
 
       -- where nothing is left nothing is moved
       pub keep-none : len ≤ 0 → buffer ≡ keptBytes buffer c
-      keep-none h = let z : len ≡ 0 = omega arith in sym (laid-none buffer 0) ∙ rw z at keep-bytes
+      keep-none h = let z : len ≡ 0 = omega arith in sym (overwrite-none buffer 0) ∙ rw z at keep-bytes
 
   -- ---- the end of the text
 

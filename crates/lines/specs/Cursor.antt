@@ -4,7 +4,7 @@ use mathlib.Core.Bool.{Bool, true, false, cond, _||_}
 use mathlib.Core.List.{List}
 use lib.Dec.{eqb, ltb}
 use lib.ListN.{length, take, drop}
-use Rattle.numbers.specs.Bytes.{laid}
+use Rattle.numbers.specs.Bytes.{overwrite}
 use Rattle.search.specs.Search.{firstWhere}
 use Rattle.lines.specs.Text.{isFeed}
 use Rattle.lines.specs.declared.Found.{Found}
@@ -57,7 +57,7 @@ unfoldable pub keptCursor : List ℕ → Cursor → Cursor
 keptCursor buffer c = cond (drops buffer c) (cursor 0 0 true) (cursor 0 (pendingLength (length buffer) c) false)
 
 unfoldable pub keptBytes : List ℕ → Cursor → List ℕ
-keptBytes buffer c = cond (drops buffer c) buffer (laid buffer 0 (pendingBytes buffer c))
+keptBytes buffer c = cond (drops buffer c) buffer (overwrite buffer 0 (pendingBytes buffer c))
 
 -- at the end of the text
 unfoldable pub lastOf : List ℕ → Cursor → Last

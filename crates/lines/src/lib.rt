@@ -2,7 +2,7 @@
 ghost use mathlib.Core.Path.{_≡_};
 ghost use Prim.Native.Nat.{_+_, _-_, _≤_, min};
 ghost use lib.ListN.{length, take, drop};
-ghost use Rattle.numbers.specs.Bytes.{laid};
+ghost use Rattle.numbers.specs.Bytes.{overwrite};
 ghost use Rattle.lines.specs.Cursor.{lineEnd, pendingLength, nextOf, NextWithin, keptCursor, keptBytes, lastOf, LastWithin};
 
 const LINE_FEED: u8 = b'\n';
@@ -102,7 +102,7 @@ pub fn next_line(buffer: &[u8], cursor: Cursor) -> Next
 // Moves n bytes to the front.
 fn move_to_front(buffer: &mut [u8], from: usize, n: usize)
     requires { ⌜ from + n ≤ length (now buffer) ⌝ }
-    ensures { λ _. ⌜ now (buffer .exit) ≡ laid (now (buffer .entry)) 0 (take n (drop from (now (buffer .entry)))) ⌝ }
+    ensures { λ _. ⌜ now (buffer .exit) ≡ overwrite (now (buffer .entry)) 0 (take n (drop from (now (buffer .entry)))) ⌝ }
 {
     let mut i: usize = 0;
     while i < n {

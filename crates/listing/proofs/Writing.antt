@@ -1,16 +1,15 @@
 -- Laws of what is written one behind the other, where it is known that the last byte lies in the buffer.
 use Prim.Native.Nat.{ℕ, _+_, _^_, _≤_, _<_}
 use Prim.Native.Char.{code}
-use mathlib.Core.Path.{_≡_, refl, sym, ap, _∙_}
-use mathlib.Core.List.{List, [], _∷_, _++_, append-assoc}
+use mathlib.Core.Path.{_≡_, ap, _∙_}
+use mathlib.Core.List.{List, [], _∷_, _++_}
 use native.Mathlib.Omega.{arith}
 use lib.IntN.{ℤ}
 use lib.ListN.{length, length-append}
 use mir.Syntax.{w64}
 use mir.Val.{SFits}
-use Rattle.numbers.proofs.Bytes.{length-laid}
+use Rattle.numbers.proofs.Bytes.{length-overwrite}
 use Rattle.text.specs.Decimal.{decimal, signedDecimal}
-use Rattle.text.specs.Limits.{digitsMax}
 use Rattle.text.specs.Lines.{field, fields, line, Wrote}
 use Rattle.text.proofs.Decimal.{digits-most, signed-most}
 use Rattle.text.proofs.Lines.{then-wrote}
@@ -18,7 +17,7 @@ use Rattle.listing.specs.Limits.{fieldMax}
 
 -- the buffer keeps its length
 pub same-room : (a s : List ℕ) (at : ℕ) {next : ℕ} {t : List ℕ} → Wrote a s at next t → next ≤ length s → length t ≡ length s
-same-room a s at w h = ap length (w .1) ∙ length-laid s at a (omega (arith, w .0))
+same-room a s at w h = ap length (w .1) ∙ length-overwrite s at a (omega (arith, w .0))
 
 pub behind : (a b s : List ℕ) (at : ℕ) {next last : ℕ} {t u : List ℕ} → Wrote a s at next t → Wrote b t next last u → last ≤ length s → Wrote (a ++ b) s at last u
 behind a b s at w v h = then-wrote s at a b (omega (arith, length-append a b, w .0, v .0)) w v

@@ -6,8 +6,8 @@ use lib.Dec.{ltb}
 use lib.IntN.{ℤ}
 use lib.ListN.{length, take}
 use mir.Syntax.{w64}
-use Rattle.numbers.specs.Bytes.{laid}
-use Rattle.numbers.specs.Border.{signedOf}
+use Rattle.numbers.specs.Bytes.{overwrite}
+use Rattle.numbers.specs.Signed.{signedOf}
 use Rattle.text.specs.Ascii.{ascii}
 use Rattle.text.specs.Decimal.{decimal, signedDecimal}
 use Rattle.text.specs.Lines.{line}
@@ -68,7 +68,7 @@ renderAnswer row reply log flushed payloads out at =
 
 unfoldable pub renderBytes : ℕ → Reply → ℕ → ℕ → List ℕ → List ℕ → ℕ → List ℕ
 renderBytes row reply log flushed payloads out at =
-    cond (ltb (length out) (at + lineMax (length payloads))) out (laid out at (replyLine row reply log flushed payloads))
+    cond (ltb (length out) (at + lineMax (length payloads))) out (overwrite out at (replyLine row reply log flushed payloads))
 
 -- the line lies in a buffer of n bytes
 abbrev pub Within : Rendered → ℕ → Type 0

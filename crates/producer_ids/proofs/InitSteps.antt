@@ -10,7 +10,7 @@ use mir.Syntax.{w16, w32, w64}
 use mir.Val.{SFits, toZ, ofZ}
 use mir.Facts.{toZ-ofZ}
 use borrow.Author.Tests.{leb-false}
-use Rattle.numbers.specs.Border.{inRange, signedOf, toNat}
+use Rattle.numbers.specs.Signed.{inRange, signedOf, toNat}
 use Rattle.numbers.specs.Padded.{padded}
 use Rattle.numbers.proofs.Tests.{and-false-right}
 use Rattle.record.specs.Limits.{nameMax, timeoutMax}

@@ -11,7 +11,7 @@ ghost use Prim.Native.Nat.{_+_, _≤_};
 ghost use lib.IntN.{ℤ};
 ghost use lib.ListN.{length};
 ghost use mir.Syntax.{w16, w64};
-ghost use Rattle.numbers.specs.Border.{signedOf};
+ghost use Rattle.numbers.specs.Signed.{signedOf};
 ghost use Rattle.numbers.specs.Padded.{padded};
 ghost use Rattle.record.specs.Limits.{nameMax};
 ghost use Rattle.record.specs.Record.{nameFits};

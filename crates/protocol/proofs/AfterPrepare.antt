@@ -7,7 +7,7 @@ use mathlib.Core.Option.{none, some}
 use native.Mathlib.Omega.{arith}
 use lib.Dec.{ltb}
 use borrow.Author.Tests.{lt-ltb, le-ltb}
-use Rattle.numbers.proofs.Border.{at-least}
+use Rattle.numbers.proofs.Signed.{at-least}
 use Rattle.numbers.proofs.Bytes.{same-true}
 use Rattle.numbers.proofs.Tests.{and-both, either}
 use Rattle.catalogue.specs.declared.Catalogue.{Catalogue}

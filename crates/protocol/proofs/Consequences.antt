@@ -8,7 +8,7 @@ use native.Mathlib.Omega.{arith}
 use lib.IntN.{pos}
 use lib.ListN.{length}
 use borrow.Author.Tests.{leb-true}
-use Rattle.numbers.specs.Border.{toNat}
+use Rattle.numbers.specs.Signed.{toNat}
 use Rattle.numbers.proofs.Tests.{and-right}
 use Rattle.catalogue.specs.declared.Catalogue.{Catalogue}
 use Rattle.record.proofs.Bounds.{well-formed-parts}

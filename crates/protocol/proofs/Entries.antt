@@ -5,7 +5,7 @@ use mathlib.Core.List.{_∷_}
 use native.Mathlib.Omega.{arith}
 use lib.ListN.{length}
 use borrow.Author.Tests.{le-leb, lt-leb}
-use Rattle.numbers.specs.Border.{toNat}
+use Rattle.numbers.specs.Signed.{toNat}
 use Rattle.search.specs.Search.{Each}
 use Rattle.search.proofs.Members.{In, each-in, in-each}
 use Rattle.runs.specs.History.{Event, History}

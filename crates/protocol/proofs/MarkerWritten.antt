@@ -8,7 +8,7 @@ use native.Mathlib.Omega.{arith}
 use lib.Dec.{eqb}
 use lib.ListN.{length}
 use borrow.Author.Tests.{eqb-true, eq-eqb}
-use Rattle.numbers.specs.Border.{toNat}
+use Rattle.numbers.specs.Signed.{toNat}
 use Rattle.numbers.proofs.Tests.{and-left, and-right, and-both, either}
 use Rattle.catalogue.specs.declared.Catalogue.{Catalogue}
 use Rattle.search.specs.Search.{countWhere}

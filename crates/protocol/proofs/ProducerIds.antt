@@ -8,8 +8,8 @@ use native.Mathlib.Omega.{arith}
 use lib.IntN.{pos}
 use lib.ListN.{length}
 use mir.Syntax.{w64}
-use Rattle.numbers.specs.Border.{toNat}
-use Rattle.numbers.proofs.Border.{natural-below}
+use Rattle.numbers.specs.Signed.{toNat}
+use Rattle.numbers.proofs.Signed.{natural-below}
 use Rattle.numbers.proofs.Tests.{not-both}
 use Rattle.catalogue.specs.declared.Catalogue.{Catalogue}
 use Rattle.record.specs.Frame.{frame}

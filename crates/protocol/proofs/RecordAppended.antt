@@ -9,10 +9,10 @@ use lib.Dec.{leb}
 use lib.IntN.{pos}
 use lib.ListN.{length}
 use borrow.Author.Tests.{leb-true, leb-false, le-leb}
-use Rattle.numbers.specs.Border.{toNat}
+use Rattle.numbers.specs.Signed.{toNat}
 use Rattle.numbers.proofs.Tests.{and-left, and-right, and-both, either, not-both}
 use Rattle.numbers.proofs.Bytes.{same-true}
-use Rattle.numbers.proofs.Border.{natural-pos}
+use Rattle.numbers.proofs.Signed.{natural-pos}
 use Rattle.bits.proofs.Laws.{member-is, member-true, subset-from}
 use Rattle.catalogue.specs.declared.Catalogue.{Catalogue}
 use Rattle.record.specs.declared.Record.{Record}

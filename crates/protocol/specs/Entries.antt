@@ -5,7 +5,7 @@ use mathlib.Core.Bool.{cond, _&&_}
 use mathlib.Core.List.{List, [], _∷_}
 use lib.Dec.{eqb, leb}
 use lib.ListN.{length}
-use Rattle.numbers.specs.Border.{toNat}
+use Rattle.numbers.specs.Signed.{toNat}
 use Rattle.runs.specs.History.{Produced, Event, recordAppended, logFlushed, logCut, logOpened, orderGiven, markerWritten, orderCarried, entryWritten, History, recordsOf, producedIn, WithBefore, collectWithBefore}
 use Rattle.protocol.specs.RecordsOfName.{preparesIn}
 

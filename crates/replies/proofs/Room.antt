@@ -4,17 +4,17 @@ use mathlib.Core.Path.{_≡_, refl, sym, ap, subst, _∙_}
 use mathlib.Core.Bool.{Bool, true, false}
 use mathlib.Core.List.{List}
 use native.Mathlib.Omega.{arith}
-use lib.Dec.{leb, ltb}
+use lib.Dec.{leb}
 use lib.ListN.{length}
 use borrow.Author.Tests.{leb-true, leb-false, le-leb, lt-leb, lt-ltb, le-ltb}
-use Rattle.numbers.specs.Bytes.{laid}
+use Rattle.numbers.specs.Bytes.{overwrite}
 use Rattle.text.specs.Lines.{Wrote}
 use Rattle.listing.specs.Limits.{fieldMax, fieldsFixed}
 use Rattle.answers.specs.Answers.{Reply}
 use Rattle.command.specs.Command.{commandOf}
 use Rattle.command.specs.declared.Command.{Command}
 use Rattle.session.specs.Memory.{Memory, memory}
-use Rattle.session.specs.Commands.{Outcome, performed, Performs}
+use Rattle.session.specs.Commands.{performed, Performs}
 use Rattle.session.specs.Replies.{replyOf}
 use Rattle.session.specs.declared.Performed.{Performed}
 use Rattle.replies.specs.Shown.{lineShown, answerLine}
@@ -33,7 +33,7 @@ module _ (n payloads : ℕ) where
 
 -- a line written at the front
 abbrev with-memory : List ℕ → List ℕ → Memory → Responded
-with-memory out answer x = record { written = length answer; memory = x; out = laid out 0 answer }
+with-memory out answer x = record { written = length answer; memory = x; out = overwrite out 0 answer }
 
 module _ (line : List ℕ) (m : Memory) (out : List ℕ) where
   -- no room: nothing is done
@@ -47,7 +47,7 @@ module _ (line : List ℕ) (m : Memory) (out : List ℕ) where
         → Wrote (lineShown command (replyOf (r .response) payloads) (r .session .coordinator .table .end) (r .session .coordinator .flushed)) out 0 written left
         → let o = performed command line m in
         _≡_ {A = Responded} (record { written = written; memory = memory (r .session) log words payloads; out = left })
-        (record { written = length (answerLine command o); memory = o .memory; out = laid out 0 (answerLine command o) })
+        (record { written = length (answerLine command o); memory = o .memory; out = overwrite out 0 (answerLine command o) })
     unfolding answerLine
     told-line command (told, left-memory) (w, b) =
         let o = performed command line m in
@@ -65,4 +65,4 @@ module _ (line : List ℕ) (m : Memory) (out : List ℕ) where
     answered-line {command = command} h e p w =
         rw (le-ltb (length out) (roomFor (length (m .payloads))) (leb-true _ _ h))
         (subst (λ (k : Command). _≡_ {A = Responded} (record { written = written; memory = memory (r .session) log words payloads; out = left })
-        (record { written = length (answerLine k (performed k line m)); memory = performed k line m .memory; out = laid out 0 (answerLine k (performed k line m)) })) e (told-line command p w))
+        (record { written = length (answerLine k (performed k line m)); memory = performed k line m .memory; out = overwrite out 0 (answerLine k (performed k line m)) })) e (told-line command p w))

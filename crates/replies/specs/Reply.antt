@@ -4,7 +4,7 @@ use mathlib.Core.Bool.{cond}
 use mathlib.Core.List.{List}
 use lib.Dec.{ltb}
 use lib.ListN.{length}
-use Rattle.numbers.specs.Bytes.{laid}
+use Rattle.numbers.specs.Bytes.{overwrite}
 use Rattle.command.specs.Command.{commandOf}
 use Rattle.listing.specs.Limits.{lineMax}
 use Rattle.listing.specs.declared.Rendered.{Rendered}
@@ -45,4 +45,4 @@ unfoldable pub responded : List ℕ → Memory → List ℕ → Responded
 responded line m out =
     let a = reply line m in
     cond (ltb (length out) (roomFor (length (m .payloads)))) (record { written = 0; memory = m; out = out })
-    (record { written = length (a .line); memory = a .memory; out = laid out 0 (a .line) })
+    (record { written = length (a .line); memory = a .memory; out = overwrite out 0 (a .line) })

@@ -40,16 +40,16 @@ use Rattle.coordinator.specs.Open.{opening}
 use Rattle.coordinator.specs.declared.Coordinator.{Coordinator}
 use Rattle.coordinator.specs.Calls.{flushCall, callTyped, actionOf}
 use Rattle.coordinator.proofs.AckCases.{ack-completed, ack-noted, acknowledged-row}
-use Rattle.writer.specs.Writer.{openingReply}
-use Rattle.writer.proofs.Decisions.{Decided, byCall}
-use Rattle.writer.proofs.Lawful.{Lawful, decided-lawful}
+use Rattle.writable_logs.specs.Writer.{openingReply}
+use Rattle.writable_logs.proofs.Decisions.{Decided, byCall}
+use Rattle.writable_logs.proofs.Lawful.{Lawful, decided-lawful}
 use Rattle.partition.specs.Partition.{Action as PartitionAction, keep as keepPartition, note, write}
 use Rattle.partition.specs.Marker.{marker}
 use Rattle.server.specs.Produce.{produce}
 use Rattle.runs.specs.History.{Order, Event, recordAppended, logFlushed, logOpened, orderGiven, markerWritten, orderCarried, entryWritten, History, carriedIn, collect, Logged, recordsOf, latestOf, nextOf, listed, isCompleted, carriedFor}
 use Rattle.runs.specs.World.{Phase, up, down, Carrying, nothing, toAcknowledge, World, catalogueOf, leaderAt, own, another, Item, call, callOrder, callProduce, callRead, deliver, acknowledge, cut, reopen, isAck, inLists, withEvent, coordinatorElsewhere, lentPartition, leaderDoes, historyAfter, historyWritten, coordinatorDoes, next, step}
 use Rattle.runs.specs.Demand3.{Undisturbed}
-use Rattle.runs.proofs.Leaves.{flush-elsewhere}
+use Rattle.runs.proofs.Unchanged.{flush-elsewhere}
 use Rattle.runs.proofs.Cases.{step-cases, while-up-cases, lent-cases, leader-cases, deliverable-cases, acknowledgeable-cases, read-cases, reopened-cases, answered-cases}
 use Rattle.protocol.specs.HistoryInvariant.{HistoryInvariant}
 use Rattle.protocol.proofs.Cuts.{numbered-same, numbered-below}

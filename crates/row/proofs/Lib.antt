@@ -1,3 +1,3 @@
 -- Laws of the crate row.
 pub mod Laws
-mod Made
+mod RowSteps

@@ -1,7 +1,7 @@
 -- Every example holds, by computation over the definitions alone.
 use mathlib.Core.Path.{_≡_, refl}
 use lib.Count.{ones, trailingZeros}
-use Rattle.numbers.specs.Bytes.{laid, same}
+use Rattle.numbers.specs.Bytes.{overwrite, same}
 use Rattle.numbers.specs.Integers.{bigEndian, integerBytes, integerOf, numberFrom}
 use Rattle.numbers.specs.Padded.{untilZero}
 use Rattle.bits.specs.Bits.{members}
@@ -36,12 +36,12 @@ use mathlib.Core.Bool.{true}
 use Rattle.log_reader.specs.Records.{framesOf}
 use Rattle.runs.specs.History.{collect, collectWithBefore, endingBy, recordsOf, flushedOf, wordsOf}
 use Rattle.runs.specs.World.{openLeaders, run, recordsRead}
-use Rattle.writer.specs.Writer.{writes}
+use Rattle.writable_logs.specs.Writer.{writes}
 use Rattle.run_examples.specs.Checks.{ends}
 use Rattle.run_examples.specs.Examples.{Example, halfAcknowledged, whileCarrying, straightRun, orderBeforeFlush, orderBeforeWholeFlush, flushPastEnd, widenedNotFlushed, ordersAfterRestart, completesAfterRestart, completesAgain, timeoutPassed, tickAborts, partitionsDown, equalEpoch, twoPending, cutInsideFrame, cutRun, openedWithRecords, slicesThatMeet8, couldHaveWritten, readsCommitted, runsAsDescribed, holds}
 
 pub examples-hold : (e : Example) → holds e ≡ true
-unfolding openLeaders writes all allAt ends run collect collectWithBefore endingBy recordsOf framesOf flushedOf wordsOf recordsRead find findLast filter ones laid same bigEndian integerBytes untilZero members nameByte nameRun isLine lineAt isNew catalogueLines parse nameBytes key partitionBytes topicEntry topicBytes topicsBelow countBelow topics value frame firstWhere countWhere sumOf firstRefusal nameFits scan placeOf lowestFree idCount reserved apply admits notHeld logFull appended readTests takeOverTests openTests opening initRow initTests initRowTests initAccepted init allJoined addRow addTests addRowTests addAction add overdue overduePlace tickTests tickAccepted tick flushTests flush openPartition openCount partitionAdmits lastSequence nextSequence produced partitionFull produceTests produceRowTests produce readFrame judged candidate wellFormed validName fieldsFit joinedFits startFits integerOf numberFrom walk past topicAt nameStands partitionsAt partitionsOf partitionsBelow withPartition mayCome succeeds first follows keeps mayFollowStatus initializes begins widens preparesCommit preparesAbort completes ackTests ackRowTests ackAction ack acknowledged endFits endTests endRowTests endAction end ordered orderPlace order markerTests closed markerAction marker oldest nextMarker committed copy readOffsetTests readAnswer readOut trailingZeros
+unfolding openLeaders writes all allAt ends run collect collectWithBefore endingBy recordsOf framesOf flushedOf wordsOf recordsRead find findLast filter ones overwrite same bigEndian integerBytes untilZero members nameByte nameRun isLine lineAt isNew catalogueLines parse nameBytes key partitionBytes topicEntry topicBytes topicsBelow countBelow topics value frame firstWhere countWhere sumOf firstRefusal nameFits scan placeOf lowestFree idCount reserved apply admits notHeld logFull appended readTests takeOverTests openTests opening initRow initTests initRowTests initAccepted init allJoined addRow addTests addRowTests addAction add overdue overduePlace tickTests tickAccepted tick flushTests flush openPartition openCount partitionAdmits lastSequence nextSequence produced partitionFull produceTests produceRowTests produce readFrame judged candidate wellFormed validName fieldsFit joinedFits startFits integerOf numberFrom walk past topicAt nameStands partitionsAt partitionsOf partitionsBelow withPartition mayCome succeeds first follows keeps mayFollowStatus initializes begins widens preparesCommit preparesAbort completes ackTests ackRowTests ackAction ack acknowledged endFits endTests endRowTests endAction end ordered orderPlace order markerTests closed markerAction marker oldest nextMarker committed copy readOffsetTests readAnswer readOut trailingZeros
 examples-hold halfAcknowledged = refl
 examples-hold whileCarrying = refl
 examples-hold straightRun = refl

@@ -17,7 +17,7 @@ use Rattle.coordinator.specs.Coordinator.{logEnd}
 use Rattle.log_reader.specs.Records.{framesOf}
 use Rattle.runs.specs.History.{flushedPrepares}
 use Rattle.runs.specs.World.{World, leaderAt, Item, cut, run}
-use Rattle.writer.specs.Demand2.{Openable}
+use Rattle.writable_logs.specs.Demand2.{Openable}
 use Rattle.runs.specs.Demand3.{Kept, Promised}
 use Rattle.runs.specs.InEveryRun.{ReadsFrom}
 use Rattle.run_examples.specs.Checks.{kept, completesInTime, holdsAt}

@@ -8,9 +8,9 @@ use lib.Dec.{eqb, leb}
 use lib.IntN.{ℤ, pos}
 use lib.ListN.{length, take}
 use borrow.Author.Tests.{eqb-true, leb-true, le-leb, not-true}
-use Rattle.numbers.specs.Border.{eqZ}
+use Rattle.numbers.specs.Signed.{eqZ}
 use Rattle.numbers.specs.Bytes.{same}
-use Rattle.numbers.proofs.Border.{eqZ-true}
+use Rattle.numbers.proofs.Signed.{eqZ-true}
 use Rattle.numbers.proofs.Bytes.{same-true}
 use Rattle.numbers.proofs.Tests.{and-left, and-right, or-either, not-both}
 use Rattle.bits.specs.Bits.{subset}

@@ -6,8 +6,8 @@ use lib.Dec.{eqb, leb}
 use lib.IntN.{ℤ, pos}
 use lib.ListN.{length, take, getD}
 use lib.Signed.{leZ}
-use Rattle.numbers.specs.Border.{eqZ}
-use Rattle.numbers.specs.Bytes.{laid, same}
+use Rattle.numbers.specs.Signed.{eqZ}
+use Rattle.numbers.specs.Bytes.{overwrite, same}
 use Rattle.bits.specs.Bits.{member, subset}
 use Rattle.catalogue.specs.declared.Catalogue.{Catalogue}
 use Rattle.record.specs.Frame.{frame}
@@ -30,7 +30,7 @@ use Rattle.answers.specs.declared.ReadAnswer.the-variants.{Copied, Refused as R
 use Rattle.partition.specs.Partition.{stableEnd}
 use Rattle.partition.specs.Read.{readAnswer, readOut}
 use Rattle.log_reader.specs.Records.{framesOf}
-use Rattle.writer.specs.Writer.{openingReply}
+use Rattle.writable_logs.specs.Writer.{openingReply}
 use Rattle.runs.specs.History.{Order, Produced, History, ordersIn, givenIn, producedIn, markersIn, collect, WithBefore, collectWithBefore, Logged, recordsOf, contents, endOf, flushedOf, epochOpened, isFlushed, recordNumbered, latestOf, nextOf, listed, isCompleted, completedPrepares, pendingPrepares, transaction, markerOver, carriedFor, markersFor, wordsOf}
 use Rattle.runs.specs.World.{Leader, Phase, up, down, Carrying, nothing, toDeliver, toAcknowledge, World, catalogueOf, leaderAt}
 use Rattle.runs.specs.InEveryRun.{committedBetween, offsets, payloads}
@@ -185,4 +185,4 @@ abbrev pub readsFrom : World → ℕ → Leader → ℕ → List ℕ → Bool
 readsFrom w x l from out =
     let entries = committedBetween x from (stableEnd (l .partition)) (w .history) in
     isCopied (readAnswer (l .partition) (l .words) from out) (min (length out) (length entries)) (getD (offsets entries) (length out) (stableEnd (l .partition)))
-    && same (readOut (l .partition) (l .words) from out) (laid out 0 (take (length out) (payloads entries)))
+    && same (readOut (l .partition) (l .words) from out) (overwrite out 0 (take (length out) (payloads entries)))

@@ -8,7 +8,7 @@ use Rattle.server.specs.Lines.{rig7}
 use Rattle.runs.specs.History.{recordsOf, contents}
 use Rattle.coordinator.specs.Calls.{initCall, addCall, endCall, tickCall, flushCall}
 use Rattle.runs.specs.World.{World, FirstOpening, start, own, another, Item, call, callOrder, callProduce, callRead, deliver, acknowledge, cut, reopen, run}
-use Rattle.writer.specs.Writer.{WriterItem, call as byWriter}
+use Rattle.writable_logs.specs.Writer.{WriterItem, call as byWriter}
 
 -- `scan` with two partitions
 abbrev pub scanText : List ℕ

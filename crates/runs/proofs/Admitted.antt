@@ -20,7 +20,7 @@ use Rattle.coordinator.proofs.Reserve.{Reserved, admits-length, opening-reserve
 use Rattle.partition.specs.Partition.{Action as PartitionAction, keep as keepPartition, note, write, after as partitionAfter, admits as partitionAdmits}
 use Rattle.partition.specs.declared.Partition.{Partition}
 use Rattle.partition.proofs.Reserve.{Reserved as PartitionReserved, admits-length as words-admits, opened-reserved, opened-room}
-use Rattle.writer.proofs.Decisions.{decided-reserved}
+use Rattle.writable_logs.proofs.Decisions.{decided-reserved}
 use Rattle.runs.specs.World.{Leader, openLeader, openLeaders, Phase, up, down, World, leaderAt, FirstOpening, start, Accepted, Item, step, run}
 use Rattle.runs.specs.InEveryRun.{AdmitsLog, AdmitsExactly}
 use Rattle.runs.proofs.Run.{run-keeps}

@@ -15,7 +15,7 @@ use Rattle.coordinator.specs.Open.{opening}
 use Rattle.coordinator.specs.declared.Coordinator.{Coordinator}
 use Rattle.partition.specs.Partition.{Action as PartitionAction, after as partitionAfter}
 use Rattle.partition.specs.declared.Partition.{Partition}
-use Rattle.writer.specs.Writer.{openingReply}
+use Rattle.writable_logs.specs.Writer.{openingReply}
 use Rattle.runs.specs.History.{Order, Event, logCut, logOpened, orderGiven}
 use Rattle.runs.specs.World.{Phase, up, down, Carrying, nothing, toDeliver, toAcknowledge, World, leaderAt, Lent, own, another, Item, inLists, withCarrying, withEvent, withPhase, withPartition, coordinatorDoes, coordinatorElsewhere, coordinatorLent, whileUp, leaderDoes, leaderLent, orderedRecord, orderAnswered, deliverable, acknowledgeable, readCalled, cutAt, reopened, next, step}
 

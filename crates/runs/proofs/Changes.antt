@@ -17,8 +17,8 @@ use Rattle.partition.specs.Partition.{Action as PartitionAction, keep as keepPa
 use Rattle.partition.specs.Marker.{marker}
 use Rattle.partition.specs.declared.Partition.{Partition}
 use Rattle.server.specs.Produce.{produce}
-use Rattle.writer.specs.Writer.{openingTyped, openingReply}
-use Rattle.writer.proofs.Decisions.{Decided, byCall}
+use Rattle.writable_logs.specs.Writer.{openingTyped, openingReply}
+use Rattle.writable_logs.proofs.Decisions.{Decided, byCall}
 use Rattle.runs.specs.History.{Order, Event, logCut, logOpened, orderCarried, History}
 use Rattle.runs.specs.World.{up, down, Carrying, nothing, toDeliver, World, leaderAt, own, another, Item, call, callOrder, callProduce, callRead, deliver, acknowledge, cut, reopen, withPhase, withLeader, withPartition, historyAfter, historyWritten, leaderDoes, lentPartition, isAck, inLists, next, step}
 use Rattle.runs.proofs.Cases.{step-cases, while-up-cases, lent-cases, leader-cases, deliverable-cases, acknowledgeable-cases, read-cases, cut-cases, reopened-cases, answered-cases}

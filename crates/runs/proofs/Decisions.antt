@@ -2,15 +2,9 @@
 use Prim.Native.Nat.{ℕ}
 use Rattle.partition.specs.Partition.{Action as PartitionAction}
 use Rattle.partition.specs.declared.Partition.{Partition}
-use Rattle.partition.proofs.Fits.{Fits, marker-fits}
 use Rattle.partition.proofs.Reserve.{Reserved as PartitionReserved, Keeps, marker-keeps}
-use Rattle.server.proofs.ProduceCases.{produce-fits}
 use Rattle.server.proofs.Admitted.{produce-keeps}
 use Rattle.runs.proofs.Changes.{Led, byProduce, byMarker}
-
-pub led-fits : (p : Partition) (n : ℕ) (a : PartitionAction) → Led p n a → Fits p n a
-led-fits p n a (byProduce s name pid epoch position sequence payload e) = rw e (produce-fits s p n name pid epoch position sequence payload)
-led-fits p n a (byMarker place pid epoch verdict coordinator e) = rw e (marker-fits p n place pid epoch verdict coordinator)
 
 pub led-keeps : (p : Partition) → PartitionReserved p → (n : ℕ) (a : PartitionAction) → Led p n a → Keeps p a
 led-keeps p r n a (byProduce s name pid epoch position sequence payload e) = rw e (produce-keeps s p n name pid epoch position sequence payload r)

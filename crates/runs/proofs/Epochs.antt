@@ -9,8 +9,8 @@ use lib.ListN.{length, take, drop}
 use lib.Signed.{leZ, ltZ}
 use mir.Syntax.{w32}
 use borrow.Author.Tests.{eqb-true}
-use Rattle.numbers.specs.Border.{toNat, signedOf}
-use Rattle.numbers.proofs.Border.{natural-back, natural-below, not-negative, fits-true}
+use Rattle.numbers.specs.Signed.{toNat, signedOf}
+use Rattle.numbers.proofs.Signed.{natural-back, natural-below, not-negative, fits-true}
 use Rattle.numbers.proofs.Tests.{by-cases, and-left, and-right}
 use Rattle.catalogue.specs.Catalogue.{parse}
 use Rattle.catalogue.specs.declared.Catalogue.{Catalogue}
@@ -34,8 +34,8 @@ use Rattle.coordinator.proofs.OpenCases.{open-number, opening-taken}
 use Rattle.partition.specs.Partition.{Action as PartitionAction, keep as keepPartition, note, write}
 use Rattle.partition.specs.Marker.{marker}
 use Rattle.server.specs.Produce.{produce}
-use Rattle.writer.specs.Writer.{openingTyped, openingReply, outOfOrder}
-use Rattle.writer.proofs.OpeningAnswers.{accepted-order}
+use Rattle.writable_logs.specs.Writer.{openingTyped, openingReply, outOfOrder}
+use Rattle.writable_logs.proofs.OpeningAnswers.{accepted-order}
 use Rattle.runs.specs.History.{Order, Produced, recordAppended, logCut, logOpened, orderGiven, markerWritten, entryWritten, orderCarried, History, WithBefore, collect, collectWithBefore, givenIn, epochOpened}
 use Rattle.runs.specs.World.{Phase, up, down, World, leaderAt, lentPartition, own, another, FirstOpening, Accepted, start, whileWhole, recordsRead, Item, call, callOrder, callProduce, callRead, deliver, acknowledge, cut, reopen, historyAfter, historyWritten, inLists, next, step, run}
 use Rattle.runs.specs.Demand3.{OfLastOpening}

@@ -3,7 +3,7 @@ pub mod Run
 pub mod Cases
 pub mod Changes
 pub mod Decisions
-pub mod Leaves
+pub mod Unchanged
 pub mod LogBytes
 pub mod Admitted
 pub mod SameCalls

@@ -6,17 +6,15 @@ use mathlib.Core.List.{List}
 use native.Mathlib.Omega.{arith}
 use lib.ListN.{length, take}
 use lib.Seq.{take-take}
-use Rattle.numbers.proofs.Bytes.{take-laid}
+use Rattle.numbers.proofs.Bytes.{take-overwrite}
 use Rattle.numbers.proofs.Tests.{not-both}
 use Rattle.search.specs.Search.{Each}
-use Rattle.search.proofs.Each.{each-then}
 use Rattle.table.specs.Table.{apply}
 use Rattle.coordinator.specs.Coordinator.{logEnd, rowFrame, Action, keep, advance, append, acknowledge as acknowledgeAt, flushTo, appended, acknowledged, after, logAfter}
 use Rattle.coordinator.specs.declared.Coordinator.{Coordinator}
 use Rattle.coordinator.proofs.Laws.{admits-room}
-use Rattle.writer.proofs.Decisions.{AppendsAdmitted, decided-admitted}
-use Rattle.runs.specs.World.{Phase, up, down, World, Item, call, callOrder, callProduce, callRead, deliver, acknowledge, cut, reopen, step, run}
-use Rattle.runs.specs.Demand3.{Undisturbed}
+use Rattle.writable_logs.proofs.Decisions.{AppendsAdmitted, decided-admitted}
+use Rattle.runs.specs.World.{Phase, up, down, World, Item, step, run}
 use Rattle.runs.proofs.Run.{run-keeps-of}
 use Rattle.runs.proofs.Changes.{isCut, step-changes}
 
@@ -39,7 +37,7 @@ below-end : (s : Coordinator) (log : List ℕ) (a : Action) → AppendsAdmitted 
 below-end s log keep h = refl
 below-end s log (advance clock) h = refl
 below-end s log (append place row) h =
-    take-laid log (logEnd s) (rowFrame s row) (omega (arith, admits-room s (length log) h))
+    take-overwrite log (logEnd s) (rowFrame s row) (omega (arith, admits-room s (length log) h))
 below-end s log (acknowledgeAt place position) h = refl
 below-end s log (flushTo n) h = refl
 
@@ -88,20 +86,6 @@ step-up x w whole h =
 
 abbrev pub WithoutCut : List Item → Type 0
 WithoutCut items = Each (λ (x : Item). isCut x ≡ false) items
-
--- a list that demand 3 calls undisturbed has none
-undisturbed-item : (all : ℕ) (x : Item) → Undisturbed all x → isCut x ≡ false
-undisturbed-item all (call lent c) u = refl
-undisturbed-item all (callOrder partitions) u = refl
-undisturbed-item all (callProduce lent other name pid epoch position sequence payload) u = refl
-undisturbed-item all (callRead lent x from out) u = refl
-undisturbed-item all (deliver lent i) u = refl
-undisturbed-item all (acknowledge lent i) u = refl
-undisturbed-item all (cut n) u = absurd u
-undisturbed-item all (reopen epoch first last) u = refl
-
-pub undisturbed-without-cut : (all : ℕ) (items : List Item) → Each (Undisturbed all) items → WithoutCut items
-undisturbed-without-cut all = each-then (Undisturbed all) (λ (x : Item). isCut x ≡ false) (undisturbed-item all)
 
 pub record Further (w v : World) : Type 0 where
   pub still-up : IsUp (v .phase)

@@ -1,5 +1,5 @@
 -- Laws of runs, whatever the items do: two lists one after the other, and what every item keeps.
-use mathlib.Core.Path.{_≡_, refl, _∙_}
+use mathlib.Core.Path.{_≡_, refl}
 use mathlib.Core.List.{List, [], _∷_, _++_}
 use Rattle.search.specs.Search.{Each}
 use Rattle.runs.specs.World.{World, Item, step, run}
@@ -21,7 +21,3 @@ pub run-keeps : (P : World → Type 0) → ((x : Item) (w : World) → P w → P
 unfolding run
 run-keeps P f [] w p = p
 run-keeps P f (x ∷ items) w p = run-keeps P f items (step x w) (f x w p)
-
--- a value that no item changes
-pub run-same : {A : Type 0} (f : World → A) → ((x : Item) (w : World) → f (step x w) ≡ f w) → (items : List Item) (w : World) → f (run items w) ≡ f w
-run-same f same items w = run-keeps (λ (v : World). f v ≡ f w) (λ x v e. same x v ∙ e) items w refl

@@ -27,7 +27,7 @@ use Rattle.partition.specs.Marker.{marker}
 use Rattle.partition.specs.declared.Partition.{Partition}
 use Rattle.server.specs.Produce.{produceTests, produce}
 use Rattle.server.specs.Calls.{Server, Call, openLog, call as serverCall, orderCall, produceCall, markerCall, readCall, answerOf, afterCall}
-use Rattle.writer.specs.Writer.{openingReply}
+use Rattle.writable_logs.specs.Writer.{openingReply}
 use Rattle.runs.specs.History.{Order, Produced, Event, logOpened, entryWritten, markerWritten, orderCarried, History}
 use Rattle.runs.specs.World.{Leader, openLeader, Phase, up, down, Carrying, nothing, toDeliver, toAcknowledge, World, leaderAt, own, Item, call, callOrder, callProduce, callRead, deliver, acknowledge, reopen, withEvent, coordinatorDoes, historyWritten, leaderDoes, lentPartition, orderAnswered, deliverable, acknowledgeable, onceDone, produceCalled, markerCalled, withPhase, reopened, next}
 use Rattle.runs.proofs.Cases.{while-up}

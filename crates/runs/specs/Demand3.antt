@@ -22,7 +22,7 @@ use Rattle.coordinator.specs.Order.{order}
 use Rattle.coordinator.specs.Calls.{ackCall, answered}
 use Rattle.partition.specs.Limits.{entryWords}
 use Rattle.partition.specs.Marker.{marker}
-use Rattle.writer.specs.Writer.{outOfOrder, openingReply}
+use Rattle.writable_logs.specs.Writer.{outOfOrder, openingReply}
 use Rattle.log_reader.specs.Records.{framesOf}
 use Rattle.runs.specs.History.{Order, Produced, History, ordersIn, givenIn, producedIn, markersIn, collect, Logged, logRecords, contents, endOf, flushedOf, epochOpened, isFlushed, recordNumbered, latestOf, nextOf, isPrepare, flushedPrepares, listed, isCompleted, completedPrepares, pendingPrepares, transaction, markerOver, carriedFor, markersFor, wordsOf, WithBefore, collectWithBefore}
 use Rattle.runs.specs.World.{Leader, Phase, up, down, Carrying, nothing, toDeliver, toAcknowledge, World, catalogueOf, leaderAt, FirstOpening, start, Accepted, Lent, own, another, Item, call, callOrder, callProduce, callRead, deliver, acknowledge, cut, reopen, run}

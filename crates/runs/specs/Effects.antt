@@ -23,7 +23,7 @@ use Rattle.partition.specs.Partition.{Action as PartitionAction, keep as keepPa
 use Rattle.partition.specs.Marker.{marker}
 use Rattle.partition.specs.declared.Partition.{Partition}
 use Rattle.server.specs.Produce.{produce}
-use Rattle.writer.specs.Writer.{openingReply}
+use Rattle.writable_logs.specs.Writer.{openingReply}
 use Rattle.runs.specs.History.{Order, Event, recordAppended, logFlushed, logCut, logOpened, orderGiven, markerWritten, orderCarried, entryWritten, History, Logged, latestOf}
 use Rattle.runs.specs.Parties.{Leader, Phase, up, down, Carrying, nothing, toDeliver, toAcknowledge, World, leaderAt}
 

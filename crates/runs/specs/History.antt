@@ -7,7 +7,7 @@ use mathlib.Core.Option.{Option, none, some}
 use lib.Dec.{eqb, leb, ltb}
 use lib.IntN.{ℤ, pos}
 use lib.ListN.{length, take, drop, getD}
-use Rattle.numbers.specs.Border.{toNat}
+use Rattle.numbers.specs.Signed.{toNat}
 use Rattle.numbers.specs.Bytes.{same}
 use Rattle.bits.specs.Bits.{count}
 use Rattle.record.specs.Record.{statusCode}

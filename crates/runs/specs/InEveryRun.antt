@@ -8,7 +8,7 @@ use mathlib.Core.List.{List, [], _∷_, map, reverse}
 use lib.Dec.{eqb, leb, ltb}
 use lib.IntN.{pos}
 use lib.ListN.{length, take, getD}
-use Rattle.numbers.specs.Bytes.{laid}
+use Rattle.numbers.specs.Bytes.{overwrite}
 use Rattle.record.specs.declared.Status.the-variants.{Empty}
 use Rattle.search.specs.Search.{isFound, found, filter, Each, EachAt}
 use Rattle.answers.specs.Answers.{accepted, readReply}
@@ -54,7 +54,7 @@ pub record ReadsFrom (w : World) (x : ℕ) (l : Leader) (from : ℕ) (out : List
       readReply (readAnswer (l .partition) (l .words) from out)
       ≡ accepted (pos (min (length out) (length entries)) ∷ pos (getD (offsets entries) (length out) (stableEnd (l .partition))) ∷ [])
   pub copies : let entries = committedBetween x from (stableEnd (l .partition)) (w .history) in
-      readOut (l .partition) (l .words) from out ≡ laid out 0 (take (length out) (payloads entries))
+      readOut (l .partition) (l .words) from out ≡ overwrite out 0 (take (length out) (payloads entries))
 
 -- "kind (0 data, 1 COMMIT, 2 ABORT)" of a marker that an entry stands under, and 0 where it stands under none
 abbrev pub kindOf : Option Order → ℕ

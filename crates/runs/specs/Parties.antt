@@ -15,7 +15,7 @@ use Rattle.coordinator.specs.Open.{opening}
 use Rattle.coordinator.specs.declared.Coordinator.{Coordinator}
 use Rattle.partition.specs.Partition.{openPartition}
 use Rattle.partition.specs.declared.Partition.{Partition}
-use Rattle.writer.specs.Writer.{openingTyped, openingReply}
+use Rattle.writable_logs.specs.Writer.{openingTyped, openingReply}
 use Rattle.runs.specs.History.{Order, recordAppended, logOpened, History}
 
 -- ---- the world

@@ -5,10 +5,10 @@ use mathlib.Core.Bool.{Bool, true, false, cond, not, _&&_}
 use mathlib.Core.List.{List, [], _∷_}
 use lib.IntN.{ℤ}
 use mir.Syntax.{w16, w32, w64}
-use Rattle.numbers.specs.Border.{fits}
+use Rattle.numbers.specs.Signed.{fits}
 use Rattle.coordinator.specs.Calls.{CoordinatorCall, initCall, addCall, endCall, tickCall, flushCall, ackCall, isWord, callTyped, actionOf}
 use Rattle.coordinator.specs.Order.{order}
-use Rattle.writer.specs.Writer.{openingTyped}
+use Rattle.writable_logs.specs.Writer.{openingTyped}
 pub use Rattle.runs.specs.Parties.{Leader, openLeader, Phase, up, down, Carrying, nothing, toDeliver, toAcknowledge, World, catalogueOf, leaderAt, whileWhole, FirstOpening, Accepted, start}
 unfoldable pub use Rattle.runs.specs.Parties.{recordsRead, openLeaders}
 pub use Rattle.runs.specs.Effects.{Lent, own, another, withCarrying, withEvent, withPhase, withLeader, whileUp, historyAfter, withWriter, coordinatorDoes, coordinatorElsewhere, coordinatorLent, historyWritten, leaderDoes, withPartition, leaderLent, lentPartition, produceCalled, readCalled, numberOr, orderedRecord, orderAnswered, deliverable, acknowledgeable, onceDone, markerCalled, withCarried, ackCalled, cutAt, reopened}

@@ -206,10 +206,6 @@ never-8 (readCall from) s r o e =
 
 -- ---- the theorem
 
--- so too where all calls are lent the same buffers
-pub calls-admit : (text log : List ℕ) (n : ℕ) (epoch first last : ℤ) (words out : List ℕ) (calls : List Call) → Admits (afterAll calls (openedWith text log n epoch first last words out))
-calls-admit text log n epoch first last words out calls = reserves-admit _ (all-keeps calls _ (opened-reserves text log n epoch first last words out) .reserves)
-
 pub admitted : Admitted
 admitted =
     record {

@@ -45,7 +45,7 @@ use Rattle.session.specs.Limits.{firstPid, lastPid, firstEpoch}
 use Rattle.session.specs.Memory.{Memory, indexOf, serverAt, withServer}
 use Rattle.session.specs.Commands.{Outcome, called, stays, answered, acknowledges, carried, payloadsOf, reading, reads, nextEpoch, restarts, cuts, bytesOf, performed}
 use Rattle.session.specs.Refusals.{carryRefusals, commandRefusals, delivered, keptBy, CommandsRefused}
-use Rattle.session.proofs.Made.{as-it-was}
+use Rattle.session.proofs.CommandSteps.{as-it-was}
 
 -- ---- a call
 

@@ -1,4 +1,4 @@
 -- Laws of the crate session.
-pub mod Made
+pub mod CommandSteps
 pub mod Parts
 pub mod CommandsRefused

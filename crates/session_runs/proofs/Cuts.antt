@@ -19,7 +19,7 @@ use Rattle.coordinator.specs.Open.{takeOverTests, openTests, opening}
 use Rattle.coordinator.specs.declared.Coordinator.{Coordinator}
 use Rattle.coordinator.proofs.OpenCases.{open-number}
 use Rattle.server.specs.Lines.{catalogueText}
-use Rattle.writer.specs.Writer.{openingTyped}
+use Rattle.writable_logs.specs.Writer.{openingTyped}
 use Rattle.runs.specs.History.{History, logCut, logOpened}
 use Rattle.runs.specs.World.{Leader, Carrying, nothing, Item, cut, reopen, run, down}
 use Rattle.agreement.proofs.Invariant.{Invariant}
@@ -28,7 +28,7 @@ use Rattle.agreement.proofs.Steps.{run-reached}
 use Rattle.session.specs.Limits.{firstPid, lastPid, lastEpoch}
 use Rattle.session.specs.Memory.{Memory, memory}
 use Rattle.session.specs.Commands.{stays, nextEpoch, restarts, cuts}
-use Rattle.session.proofs.Made.{other-coordinator}
+use Rattle.session.proofs.CommandSteps.{other-coordinator}
 use Rattle.session.proofs.CommandsRefused.{answered-number, cut-unchanged}
 use Rattle.session_runs.proofs.Worlds.{world, Held, Shown}
 use Rattle.session_runs.proofs.Steps.{as-shown}

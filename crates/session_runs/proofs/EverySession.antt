@@ -7,7 +7,7 @@ use native.Mathlib.Omega.{arith}
 use lib.Dec.{eqb}
 use lib.ListN.{length, getD}
 use borrow.Author.Tests.{le-ltb}
-use Rattle.numbers.specs.Bytes.{laid, same}
+use Rattle.numbers.specs.Bytes.{overwrite, same}
 use Rattle.numbers.specs.Padded.{untilZero}
 use Rattle.bits.specs.Bits.{member}
 use Rattle.search.specs.Search.{Each, sumOf}
@@ -51,7 +51,7 @@ use Rattle.session_runs.proofs.Cuts.{cut-shown, cut-accepted}
 
 -- an empty log opens, whatever stands in the buffer
 tests-pass : (log : List ℕ) → firstRefusal (openTests catalogueText log 0 firstEpoch firstPid lastPid) ≡ 0
-unfolding laid same untilZero nameByte nameRun isLine lineAt isNew catalogueLines parse scan reserved sumOf readTests takeOverTests openTests
+unfolding overwrite same untilZero nameByte nameRun isLine lineAt isNew catalogueLines parse scan reserved sumOf readTests takeOverTests openTests
 tests-pass log =
     none-is (openTests catalogueText log 0 firstEpoch firstPid lastPid) (refl, (le-ltb (length log) 0 (omega arith), (refl, (refl, (le-ltb (length log) 0 (omega arith), tt)))))
 

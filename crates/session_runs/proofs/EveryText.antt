@@ -5,19 +5,19 @@ use mathlib.Core.Bool.{Bool, true, false, cond}
 use mathlib.Core.List.{List, [], _∷_, map}
 use mathlib.Core.Option.{Option, none, some}
 use native.Mathlib.Omega.{arith}
-use lib.Dec.{eqb, leb}
+use lib.Dec.{eqb}
 use lib.IntN.{ℤ, pos, negsuc, negℤ}
 use lib.ListN.{getD}
 use mir.Syntax.{Width, w16, w32, w64}
 use mir.Val.{hbits}
 use borrow.Author.Tests.{leb-true, le-leb, lt-ltb}
-use Rattle.numbers.specs.Border.{inRange, toNat}
+use Rattle.numbers.specs.Signed.{inRange, toNat}
 use Rattle.search.specs.Search.{Each}
 use Rattle.coordinator.specs.Calls.{isWord}
 use Rattle.command.specs.declared.Command.{Command}
 use Rattle.command.specs.declared.Command.the-variants.{Init, Add, End, Tick, Flush, Put, Carry, Read, Cut, Unknown}
 use Rattle.command.specs.Fields.{count, partAt, field}
-use Rattle.command.specs.Numbers.{integerOf, within, signed, unsigned}
+use Rattle.command.specs.Numbers.{integerOf, within, signed}
 use Rattle.command.specs.Command.{given, int16, int32, int64, uint64, ofFields, changeOf, initOf, addOf, endOf, tickOf, flushOf, putOf, carryOf, readOf, cutOf, commandsOf, commandAt, commandOf}
 use Rattle.command.specs.Words.{rowOf}
 use Rattle.session_runs.specs.Items.{CommandLine, commandTyped}

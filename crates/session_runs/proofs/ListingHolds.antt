@@ -1,7 +1,7 @@
 -- The listing of document 01 holds of the definitions.
 use mathlib.Core.Path.{_≡_, refl}
 use lib.Count.{ones, trailingZeros}
-use Rattle.numbers.specs.Bytes.{laid, same}
+use Rattle.numbers.specs.Bytes.{overwrite, same}
 use Rattle.numbers.specs.Integers.{bigEndian, integerBytes, integerOf, numberFrom}
 use Rattle.numbers.specs.Padded.{untilZero}
 use Rattle.bits.specs.Bits.{members}
@@ -37,5 +37,5 @@ use Rattle.session.specs.Commands.{performed}
 use Rattle.session_runs.specs.Listing.{outputs, listingMemory, listing, listed}
 
 pub listing-holds : outputs listing listingMemory ≡ listed
-unfolding outputs performed opened ones laid same bigEndian integerBytes untilZero members nameByte nameRun isLine lineAt isNew catalogueLines parse nameBytes key partitionBytes topicEntry topicBytes topicsBelow countBelow topics value frame firstWhere countWhere sumOf firstRefusal nameFits scan placeOf lowestFree idCount reserved apply admits notHeld logFull appended readTests takeOverTests openTests opening initRow initTests initRowTests initAccepted init allJoined addRow addTests addRowTests addAction add overdue overduePlace tickTests tickAccepted tick flushTests flush openPartition openCount partitionAdmits lastSequence nextSequence produced partitionFull produceTests produceRowTests produce readFrame judged candidate wellFormed validName fieldsFit joinedFits startFits integerOf numberFrom walk past topicAt nameStands partitionsAt partitionsOf partitionsBelow withPartition mayCome succeeds first follows keeps mayFollowStatus initializes begins widens preparesCommit preparesAbort completes ackTests ackRowTests ackAction ack acknowledged endFits endTests endRowTests endAction end ordered orderPlace order markerTests closed markerAction marker oldest nextMarker committed copy readOffsetTests readAnswer readOut trailingZeros
+unfolding outputs performed opened ones overwrite same bigEndian integerBytes untilZero members nameByte nameRun isLine lineAt isNew catalogueLines parse nameBytes key partitionBytes topicEntry topicBytes topicsBelow countBelow topics value frame firstWhere countWhere sumOf firstRefusal nameFits scan placeOf lowestFree idCount reserved apply admits notHeld logFull appended readTests takeOverTests openTests opening initRow initTests initRowTests initAccepted init allJoined addRow addTests addRowTests addAction add overdue overduePlace tickTests tickAccepted tick flushTests flush openPartition openCount partitionAdmits lastSequence nextSequence produced partitionFull produceTests produceRowTests produce readFrame judged candidate wellFormed validName fieldsFit joinedFits startFits integerOf numberFrom walk past topicAt nameStands partitionsAt partitionsOf partitionsBelow withPartition mayCome succeeds first follows keeps mayFollowStatus initializes begins widens preparesCommit preparesAbort completes ackTests ackRowTests ackAction ack acknowledged endFits endTests endRowTests endAction end ordered orderPlace order markerTests closed markerAction marker oldest nextMarker committed copy readOffsetTests readAnswer readOut trailingZeros
 listing-holds = refl

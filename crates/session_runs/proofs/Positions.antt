@@ -5,7 +5,7 @@ use mathlib.Core.Bool.{Bool, true, false, cond}
 use native.Mathlib.Omega.{arith}
 use lib.Dec.{eqb}
 use borrow.Author.Tests.{eqb-true, eqb-false}
-use Rattle.numbers.specs.Bytes.{laid, same}
+use Rattle.numbers.specs.Bytes.{overwrite, same}
 use Rattle.numbers.specs.Padded.{untilZero}
 use Rattle.numbers.proofs.Tests.{not-both}
 use Rattle.bits.specs.Bits.{member}
@@ -17,7 +17,7 @@ use Rattle.session.specs.Memory.{indexOf}
 
 -- scan has the positions 0 and 1, cert has 8
 pub all-positions : parse catalogueText .catalogue .all ≡ 259
-unfolding laid same untilZero nameByte nameRun isLine lineAt isNew catalogueLines parse
+unfolding overwrite same untilZero nameByte nameRun isLine lineAt isNew catalogueLines parse
 all-positions = refl
 
 -- the position of a partition

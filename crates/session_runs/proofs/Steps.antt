@@ -21,7 +21,7 @@ use Rattle.agreement.proofs.Invariant.{Invariant}
 use Rattle.agreement.proofs.Preserves.{log-of}
 use Rattle.session.specs.Limits.{partitions}
 use Rattle.session.specs.Memory.{Memory, memory, indexOf, partitionAt, wordsAt, serverAt, withServer}
-use Rattle.session.proofs.Made.{own-words}
+use Rattle.session.proofs.CommandSteps.{own-words}
 use Rattle.session_runs.proofs.Positions.{positionOf, all-positions, index-inside, lent-position}
 use Rattle.session_runs.proofs.Worlds.{world, Held, Shown, coordinator-did, partition-did}
 

@@ -18,7 +18,7 @@ use Rattle.runs.specs.History.{History}
 use Rattle.runs.specs.World.{World, Leader, openLeader, up, Carrying}
 use Rattle.session.specs.Limits.{partitions}
 use Rattle.session.specs.Memory.{Memory, partitionAt, share, wordsAt, serverAt, withServer}
-use Rattle.session.proofs.Made.{coordinator-left}
+use Rattle.session.proofs.CommandSteps.{coordinator-left}
 use Rattle.session.proofs.Parts.{length-share, with-same, with-other}
 use Rattle.session_runs.specs.SessionRuns.{leaderOf, SameServer}
 use Rattle.session_runs.proofs.Positions.{positionOf, position-low, positions-differ}

@@ -5,7 +5,7 @@ use mathlib.Core.List.{List, [], _∷_, _++_}
 use lib.Dec.{eqb}
 use lib.ListN.{length}
 use mir.Syntax.{w16, w32, w64}
-use Rattle.numbers.specs.Border.{fits}
+use Rattle.numbers.specs.Signed.{fits}
 use Rattle.bits.specs.Bits.{member}
 use Rattle.coordinator.specs.Coordinator.{logEnd}
 use Rattle.coordinator.specs.Calls.{initCall, addCall, endCall, tickCall, flushCall, isWord}

@@ -1,6 +1,6 @@
 -- Laws of the crate table.
 pub mod Laws
-mod Made
+mod TableSteps
 pub mod Reserve
 pub mod Records
 pub mod Fits

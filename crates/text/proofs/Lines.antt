@@ -6,14 +6,14 @@ use mathlib.Core.List.{List, [], _∷_, _++_, append-assoc, append-nil}
 use native.Mathlib.Nat.{add-zero}
 use native.Mathlib.Omega.{arith}
 use lib.ListN.{length, length-append}
-use Rattle.numbers.proofs.Bytes.{length-laid, laid-laid, laid-none}
+use Rattle.numbers.proofs.Bytes.{length-overwrite, overwrite-overwrite, overwrite-none}
 use Rattle.search.specs.Search.{Each}
 use Rattle.text.specs.Lines.{field, fields, line, Wrote}
 
 -- ---- bytes b behind bytes a
 
 pub none-wrote : (s : List ℕ) (at : ℕ) → Wrote [] s at at s
-none-wrote s at = (sym (add-zero at), sym (laid-none s at))
+none-wrote s at = (sym (add-zero at), sym (overwrite-none s at))
 
 module _ (s : List ℕ) (at : ℕ) (a b : List ℕ) (room : at + length (a ++ b) ≤ length s) where
   pub first-fits : at + length a ≤ length s
@@ -21,13 +21,13 @@ module _ (s : List ℕ) (at : ℕ) (a b : List ℕ) (room : at + length (a ++ b)
 
   pub then-fits : {next : ℕ} {t : List ℕ} → Wrote a s at next t → next + length b ≤ length t
   then-fits {t = t} (n, e) =
-      let l : length t ≡ length s = ap length e ∙ length-laid s at a first-fits in
+      let l : length t ≡ length s = ap length e ∙ length-overwrite s at a first-fits in
       omega (arith, length-append a b)
 
   pub then-wrote : {next last : ℕ} {t u : List ℕ} → Wrote a s at next t → Wrote b t next last u → Wrote (a ++ b) s at last u
   then-wrote (n, e) (m, f) = (
     rw length-append (omega arith),
-    f ∙ rw (e, n) (laid-laid s at (length a) a b refl (omega (arith, length-append a b))),
+    f ∙ rw (e, n) (overwrite-overwrite s at (length a) a b refl (omega (arith, length-append a b))),
   )
 
 -- ---- fields

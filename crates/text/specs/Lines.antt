@@ -4,7 +4,7 @@ use Prim.Native.Char.{code}
 use mathlib.Core.Path.{_≡_}
 use mathlib.Core.List.{List, [], _∷_, _++_}
 use lib.ListN.{length}
-use Rattle.numbers.specs.Bytes.{laid}
+use Rattle.numbers.specs.Bytes.{overwrite}
 
 -- a field behind a tab
 abbrev pub field : List ℕ → List ℕ
@@ -21,4 +21,4 @@ line word fs = word ++ (fields fs ++ (code "\n" ∷ []))
 
 -- what the contract of a function that writes says: these bytes stand from a place on, all else is as it was, and the answer is the place behind them
 abbrev pub Wrote : List ℕ → List ℕ → ℕ → ℕ → List ℕ → Type 0
-Wrote bytes before at next after = (next ≡ at + length bytes) × (after ≡ laid before at bytes)
+Wrote bytes before at next after = (next ≡ at + length bytes) × (after ≡ overwrite before at bytes)

@@ -9,7 +9,7 @@ use lib.ListN.{length}
 use mir.Syntax.{w16, w64}
 use mir.Val.{SFits, toZ, ofZ}
 use mir.Facts.{toZ-ofZ}
-use Rattle.numbers.specs.Border.{eqZ}
+use Rattle.numbers.specs.Signed.{eqZ}
 use Rattle.numbers.proofs.Tests.{and-false-right}
 use Rattle.bits.specs.Bits.{subset}
 use Rattle.row.specs.Limits.{epochMax}

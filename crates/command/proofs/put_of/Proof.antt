@@ -8,7 +8,7 @@ use mathlib.Core.Option.{some}
 use lib.IntN.{ℤ}
 use mir.Syntax.{w16, w32, w64}
 use mir.Val.{toZ, ofZ}
-use Rattle.numbers.specs.Border.{toNat}
+use Rattle.numbers.specs.Signed.{toNat}
 use Rattle.command.specs.Fields.{count, field}
 use Rattle.command.specs.Numbers.{signed, unsigned}
 use Rattle.command.proofs.Splitting.{counts, counts-not, held}

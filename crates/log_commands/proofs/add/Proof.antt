@@ -3,7 +3,7 @@ use Rattle.answers.specs.Answers.{reply}
 use Rattle.coordinator.specs.Add.{add as addDecision}
 use mir.Facts.{toZ-ofZ}
 use lib.ListN.{length}
-use Rattle.session.proofs.Made.{coordinator-performs}
+use Rattle.session.proofs.CommandSteps.{coordinator-performs}
 use borrow.Author.Needs.{needs}
 use Rattle.log_commands.proofs.add.Statement.{statement}
 use Rattle.log_commands.proofs.add.Tie as tie

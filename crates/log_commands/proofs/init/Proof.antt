@@ -3,7 +3,7 @@ use Rattle.answers.specs.Answers.{initReply}
 use Rattle.coordinator.specs.Init.{init as initDecision}
 use mir.Facts.{toZ-ofZ}
 use lib.ListN.{length}
-use Rattle.session.proofs.Made.{coordinator-performs}
+use Rattle.session.proofs.CommandSteps.{coordinator-performs}
 use borrow.Author.Needs.{needs}
 use Rattle.log_commands.proofs.init.Statement.{statement}
 use Rattle.log_commands.proofs.init.Tie as tie

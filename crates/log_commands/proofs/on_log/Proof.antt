@@ -9,7 +9,7 @@ use Rattle.coordinator.specs.Calls.{initCall, addCall, endCall}
 use Rattle.server.specs.Calls.{call}
 use Rattle.session.specs.Memory.{Memory, memory}
 use Rattle.session.specs.Commands.{called, performed}
-use Rattle.session.proofs.Made.{logged-as, nothing-on-log, named-as, same-init, same-add, same-end}
+use Rattle.session.proofs.CommandSteps.{logged-as, nothing-on-log, named-as, same-init, same-add, same-end}
 use borrow.Author.Needs.{needs}
 use Rattle.log_commands.proofs.on_log.Statement.{statement}
 use Rattle.log_commands.proofs.on_log.Tie as tie

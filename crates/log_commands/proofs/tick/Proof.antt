@@ -3,7 +3,7 @@ use Rattle.answers.specs.Answers.{tickReply}
 use Rattle.coordinator.specs.Tick.{tick as tickDecision}
 use mir.Facts.{toZ-ofZ}
 use lib.ListN.{length}
-use Rattle.session.proofs.Made.{coordinator-performs}
+use Rattle.session.proofs.CommandSteps.{coordinator-performs}
 use borrow.Author.Needs.{needs}
 use Rattle.log_commands.proofs.tick.Statement.{statement}
 use Rattle.log_commands.proofs.tick.Tie as tie

@@ -3,8 +3,8 @@ use mathlib.Core.Path.{_≡_, sym, _∙_}
 use Prim.Native.Nat.{_<_}
 use native.Mathlib.Omega.{arith}
 use mir.Syntax.{w32}
-use Rattle.numbers.specs.Border.{toNat}
-use Rattle.numbers.proofs.Border.{passed}
+use Rattle.numbers.specs.Signed.{toNat}
+use Rattle.numbers.proofs.Signed.{passed}
 use Rattle.row.specs.Limits.{epochLast}
 use Rattle.producer_ids.proofs.InitSteps.{init-row-new, init-row-next, epoch-below}
 use borrow.Author.Needs.{needs}

@@ -1,5 +1,5 @@
 -- `session::bytes_of` meets its contract.
-use Rattle.session.proofs.Made.{clamped}
+use Rattle.session.proofs.CommandSteps.{clamped}
 use borrow.Author.Needs.{needs}
 use Rattle.session.proofs.bytes_of.Statement.{statement}
 use Rattle.session.proofs.bytes_of.Tie as tie

@@ -1,5 +1,5 @@
 -- `session::opened` meets its contract.
-use Rattle.session.proofs.Made.{opened-as}
+use Rattle.session.proofs.CommandSteps.{opened-as}
 use borrow.Author.Needs.{needs}
 use Rattle.session.proofs.opened.Statement.{statement}
 use Rattle.session.proofs.opened.Tie as tie

@@ -9,7 +9,7 @@ use mir.Facts.{toZ-ofZ}
 use lib.ListN.{length}
 use Rattle.session.specs.Commands.{answered}
 use Rattle.session.specs.Memory.{indexOf}
-use Rattle.session.proofs.Made.{coordinator-performs}
+use Rattle.session.proofs.CommandSteps.{coordinator-performs}
 use borrow.Author.Needs.{needs}
 use Rattle.session_commands.proofs.acknowledge.Statement.{statement}
 use Rattle.session_commands.proofs.acknowledge.Tie as tie

@@ -3,7 +3,7 @@ use mathlib.Core.Path.{_≡_, refl, sym, _∙_}
 use mir.Syntax.{w16, w32, w64}
 use mir.Val.{toZ, ofZ}
 use Rattle.session.specs.Memory.{memory}
-use Rattle.session.proofs.Made.{carried-order, carried-none}
+use Rattle.session.proofs.CommandSteps.{carried-order, carried-none}
 use borrow.Author.Needs.{needs}
 use Rattle.session_commands.proofs.carry.Statement.{statement}
 use Rattle.session_commands.proofs.carry.Tie as tie

@@ -10,7 +10,7 @@ use borrow.Rule.Slice.PartMut.{putMid}
 use Rattle.partition.specs.declared.Partition.{Partition}
 use Rattle.session.specs.Memory.{memory, indexOf, share}
 use Rattle.session.specs.Commands.{Outcome, called, acknowledges, Performs}
-use Rattle.session.proofs.Made.{partition-performs, goes-on, stops}
+use Rattle.session.proofs.CommandSteps.{partition-performs, goes-on, stops}
 use borrow.Author.Needs.{needs}
 use Rattle.session_commands.proofs.deliver.Statement.{statement}
 use Rattle.session_commands.proofs.deliver.Tie as tie

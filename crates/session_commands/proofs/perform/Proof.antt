@@ -8,7 +8,7 @@ use Rattle.command.specs.declared.Command.the-variants.{Put, Carry, Read}
 use Rattle.server.specs.Calls.{produceCall}
 use Rattle.session.specs.Memory.{Memory, memory, indexOf}
 use Rattle.session.specs.Commands.{called, performed}
-use Rattle.session.proofs.Made.{performed-as, on-log-as, named-as, same-put}
+use Rattle.session.proofs.CommandSteps.{performed-as, on-log-as, named-as, same-put}
 use borrow.Author.Needs.{needs}
 use Rattle.session_commands.proofs.perform.Statement.{statement}
 use Rattle.session_commands.proofs.perform.Tie as tie

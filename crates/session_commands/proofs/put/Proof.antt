@@ -5,7 +5,7 @@ use Rattle.server.specs.Produce.{produce as produceDecision}
 use mir.Facts.{toZ-ofZ}
 use Rattle.partition.specs.declared.Partition.{Partition}
 use Rattle.session.specs.Memory.{indexOf}
-use Rattle.session.proofs.Made.{partition-performs}
+use Rattle.session.proofs.CommandSteps.{partition-performs}
 use borrow.Author.Needs.{needs}
 use Rattle.session_commands.proofs.put.Statement.{statement}
 use Rattle.session_commands.proofs.put.Tie as tie

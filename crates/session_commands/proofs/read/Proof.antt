@@ -2,7 +2,7 @@
 use mathlib.Core.Path.{sym, _∙_}
 use borrow.Author.Tests.{not-true, not-false}
 use Rattle.session.specs.Memory.{indexOf}
-use Rattle.session.proofs.Made.{read-performs}
+use Rattle.session.proofs.CommandSteps.{read-performs}
 use borrow.Author.Needs.{needs}
 use Rattle.session_commands.proofs.read.Statement.{statement}
 use Rattle.session_commands.proofs.read.Tie as tie

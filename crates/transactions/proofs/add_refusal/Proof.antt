@@ -1,8 +1,8 @@
 -- `transactions::add_refusal` meets its contract.
 use mathlib.Core.Bool.{not, _||_}
 use lib.IntN.{ℤ, pos}
-use Rattle.numbers.specs.Border.{eqZ}
-use Rattle.numbers.proofs.Border.{passed-on}
+use Rattle.numbers.specs.Signed.{eqZ}
+use Rattle.numbers.proofs.Signed.{passed-on}
 use Rattle.row.specs.Limits.{epochMax}
 use Rattle.coordinator.specs.Named.{notHeldAt}
 use Rattle.transactions.specs.Parts.{addFull}

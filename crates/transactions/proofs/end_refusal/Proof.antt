@@ -1,7 +1,7 @@
 -- `transactions::end_refusal` meets its contract.
 use lib.IntN.{ℤ, pos}
-use Rattle.numbers.specs.Border.{eqZ}
-use Rattle.numbers.proofs.Border.{passed-on}
+use Rattle.numbers.specs.Signed.{eqZ}
+use Rattle.numbers.proofs.Signed.{passed-on}
 use Rattle.coordinator.specs.Named.{notHeldAt}
 use Rattle.transactions.proofs.EndSteps.{end-named, end-tested}
 use borrow.Author.Needs.{needs}

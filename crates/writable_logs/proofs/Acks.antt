@@ -8,7 +8,7 @@ use lib.Dec.{eqb}
 use lib.IntN.{pos}
 use lib.ListN.{length}
 use borrow.Author.Tests.{eqb-true, eqb-false}
-use Rattle.numbers.proofs.Border.{eqZ-is}
+use Rattle.numbers.proofs.Signed.{eqZ-is}
 use Rattle.numbers.proofs.Tests.{not-both}
 use Rattle.bits.specs.Bits.{member, insert, subset, difference, count}
 use Rattle.bits.proofs.Laws.{member-true, member-is, member-false, member-below, none-member, subset-from, insert-below, left-parts, left-is, left-without, count-none, count-left}
@@ -26,10 +26,10 @@ use Rattle.coordinator.specs.Ack.{lastOutstanding, ackRowTests, ackTests, ack}
 use Rattle.coordinator.specs.declared.Coordinator.{Coordinator}
 use Rattle.coordinator.proofs.Laws.{appended-unflushed}
 use Rattle.coordinator.proofs.AckCases.{ack-refused, ack-passed, ack-nothing, ack-completed, ack-noted, acknowledged-row, acknowledged-admits}
-use Rattle.writer.specs.Items.{acksBelow}
+use Rattle.writable_logs.specs.Items.{acksBelow}
 use Rattle.coordinator.specs.Calls.{ackCall, Writer, acts}
-use Rattle.writer.specs.Writer.{writes}
-use Rattle.writer.proofs.Decisions.{Decided, byCall}
+use Rattle.writable_logs.specs.Writer.{writes}
+use Rattle.writable_logs.proofs.Decisions.{Decided, byCall}
 
 -- the row at a place is a flushed prepare that a record completes, with positions outstanding, all of them below k
 pub record Acknowledging (x : Writer) (place : ℕ) (r : Record) (k : ℕ) : Type 0 where

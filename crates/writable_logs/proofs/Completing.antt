@@ -6,7 +6,7 @@ use mathlib.Core.List.{List}
 use native.Mathlib.Omega.{arith}
 use lib.ListN.{length, getD}
 use borrow.Author.Tests.{ne-eqb, le-ltb, ltb-true}
-use Rattle.numbers.specs.Border.{toNat}
+use Rattle.numbers.specs.Signed.{toNat}
 use Rattle.numbers.proofs.Tests.{not-both}
 use Rattle.bits.specs.Bits.{member}
 use Rattle.bits.proofs.Laws.{bit-of-none, member-is-not, member-below, none-member, left-parts, left-is}
@@ -30,8 +30,8 @@ use Rattle.table.proofs.Laws.{place-found, come-follows, come-back}
 use Rattle.coordinator.specs.Coordinator.{advance, after}
 use Rattle.coordinator.specs.declared.Coordinator.{Coordinator}
 use Rattle.coordinator.proofs.Reserve.{admits-own}
-use Rattle.writer.proofs.Acks.{Acknowledging}
-use Rattle.writer.proofs.Reopened.{reopened, Reopens}
+use Rattle.writable_logs.proofs.Acks.{Acknowledging}
+use Rattle.writable_logs.proofs.Reopened.{reopened, Reopens}
 
 module _ (c : Catalogue) (t : Table) (log : List ℕ) (o : Reopens c t (length log)) (r : Record) (w : wellFormed c r ≡ true) (m : mayCome t r ≡ true)
     (new : r .status ≡ Empty → ⊥) (prepares : isPrepare (rowAt t (placeOf t (r .name)) .status) ≡ true) where

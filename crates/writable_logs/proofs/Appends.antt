@@ -9,9 +9,9 @@ use lib.IntN.{pos}
 use lib.ListN.{List·getD-eq-default}
 use mir.Syntax.{w16, w32, w64}
 use borrow.Author.Tests.{eq-eqb, le-leb, lt-leb, lt-ltb, le-ltb, ltb-true, ltb-false}
-use Rattle.numbers.specs.Border.{eqZ, inRange, toNat}
+use Rattle.numbers.specs.Signed.{eqZ, inRange, toNat}
 use Rattle.numbers.specs.Padded.{padded}
-use Rattle.numbers.proofs.Border.{later-is, eqZ-true, eqZ-false, range-is, fits-is}
+use Rattle.numbers.proofs.Signed.{later-is, eqZ-true, eqZ-false, range-is, fits-is}
 use Rattle.numbers.proofs.Tests.{by-cases, not-both}
 use Rattle.catalogue.specs.declared.Catalogue.{Catalogue}
 use Rattle.record.specs.Limits.{nameMax, timeoutMax, frameMax}
@@ -49,8 +49,8 @@ use Rattle.coordinator.proofs.Reserve.{admits-own}
 use Rattle.coordinator.proofs.InitCases.{init-passes, init-aborting, init-new, init-next}
 use Rattle.coordinator.proofs.AddCases.{add-passes, add-begun, add-widened}
 use Rattle.coordinator.proofs.EndCases.{end-passes, end-prepared}
-use Rattle.writer.proofs.Reopened.{reopened, Reopens}
-use Rattle.writer.specs.Items.{abortCall}
+use Rattle.writable_logs.proofs.Reopened.{reopened, Reopens}
+use Rattle.writable_logs.specs.Items.{abortCall}
 
 -- a call, lent a buffer of n bytes, appends this record
 pub record Appends (s : Coordinator) (n : ℕ) (call : CoordinatorCall) (r : Record) : Type 0 where

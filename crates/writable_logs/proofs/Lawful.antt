@@ -9,9 +9,9 @@ use lib.IntN.{ℤ, pos}
 use lib.ListN.{length}
 use mir.Syntax.{w32, w64}
 use borrow.Author.Tests.{lt-ltb, le-ltb, ltb-true, ltb-false, leb-true, leb-false, not-false}
-use Rattle.numbers.specs.Border.{fits, toNat}
+use Rattle.numbers.specs.Signed.{fits, toNat}
 use Rattle.numbers.specs.Padded.{padded}
-use Rattle.numbers.proofs.Border.{natural-back, later-at-least, later-fits, at-least-is, range-natural, fits-true}
+use Rattle.numbers.proofs.Signed.{natural-back, later-at-least, later-fits, at-least-is, range-natural, fits-true}
 use Rattle.numbers.proofs.Tests.{by-cases, and-left, and-right, and-both, and-false-right}
 use Rattle.bits.specs.Bits.{member, subset}
 use Rattle.record.specs.Limits.{nameMax, timeoutMax}
@@ -58,7 +58,7 @@ use Rattle.coordinator.proofs.AddCases.{AddPassed, add-passed}
 use Rattle.coordinator.proofs.TickCases.{overdue-found}
 use Rattle.coordinator.proofs.FlushCases.{flush-passed}
 use Rattle.coordinator.proofs.AckCases.{AckPassed, ack-passed}
-use Rattle.writer.proofs.Decisions.{Decided, byCall}
+use Rattle.writable_logs.proofs.Decisions.{Decided, byCall}
 
 -- the numbers beside the table are those of document 01's types
 pub record NumbersFit (s : Coordinator) : Type 0 where

@@ -9,9 +9,9 @@ use lib.IntN.{ℤ, pos}
 use lib.Signed.{leZ}
 use borrow.Author.Tests.{lt-ltb, le-ltb, ltb-true, ltb-false}
 use mir.Syntax.{w16, w64}
-use Rattle.numbers.specs.Border.{fits, toNat}
+use Rattle.numbers.specs.Signed.{fits, toNat}
 use Rattle.numbers.specs.Padded.{padded}
-use Rattle.numbers.proofs.Border.{natural-back, later-is, fits-is}
+use Rattle.numbers.proofs.Signed.{natural-back, later-is, fits-is}
 use Rattle.numbers.proofs.Tests.{by-cases}
 use Rattle.bits.proofs.Laws.{subset-is}
 use Rattle.catalogue.specs.declared.Catalogue.{Catalogue}
@@ -39,8 +39,8 @@ use Rattle.coordinator.specs.declared.Coordinator.{Coordinator}
 use Rattle.coordinator.proofs.AddCases.{add-passes, add-nothing}
 use Rattle.coordinator.proofs.Reserve.{admits-own}
 use Rattle.coordinator.proofs.TickCases.{overdue-nowhere, tick-none}
-use Rattle.writer.specs.Items.{begunPlace, addJoined, clockCall}
-use Rattle.writer.proofs.Reopened.{reopened, Reopens}
+use Rattle.writable_logs.specs.Items.{begunPlace, addJoined, clockCall}
+use Rattle.writable_logs.proofs.Reopened.{reopened, Reopens}
 use Rattle.coordinator.specs.Calls.{CoordinatorCall, tickCall, callTyped, actionOf}
 
 module _ (c : Catalogue) (t : Table) (room : ℕ) (o : Reopens c t room) (pid updated : ℤ) (fit : fits w64 updated ≡ true)
