@@ -1,2 +1,4 @@
 -- Theorems of the crate examples.
 pub mod Lines
+pub mod Themes
+pub mod Successions

@@ -2,3 +2,11 @@
 pub mod Starts
 pub mod FurtherLines
 pub mod RefusalLines
+pub mod Held
+pub mod EpochLines
+pub mod ClockLines
+pub mod SetLines
+pub mod PidLines
+pub mod PartitionLines
+pub mod Themes
+pub mod SuccessionLines

@@ -19,7 +19,7 @@ use Rattle.coordinator.specs.Open.{blankState, takenOver}
 use Rattle.partition.specs.Partition.{openPartition, noProducer}
 use Rattle.partition.specs.declared.Partition.{Partition}
 use Rattle.partition.specs.declared.Producer.{Producer}
-use Rattle.coordinator.specs.Calls.{initCall, addCall, endCall, flushCall, ackCall}
+use Rattle.coordinator.specs.Calls.{initCall, addCall, endCall, tickCall, flushCall, ackCall}
 use Rattle.server.specs.Calls.{Server, Call, openLog, openWords, call, produceCall, markerCall}
 use Rattle.server.specs.Lines.{Line, lineFrom, catalogueText, rig7, opened, init7, join, begins, put}
 
@@ -68,6 +68,25 @@ completes verdict = prepares verdict ++ (mark verdict ∷ ack7 ∷ call (flushCa
 abbrev pub preparesTwo : List Call
 preparesTwo = holds7 ++ (add7 257 ∷ call (flushCall 134) ∷ end7 0 ∷ call (flushCall 215) ∷ [])
 
+-- the same calls with their own epoch and time
+abbrev pub initAt : ℕ → ℕ → Call
+initAt timeout time = call (initCall rig7 (pos timeout) (pos time))
+
+abbrev pub addAt : ℕ → ℕ → ℕ → Call
+addAt epoch set time = call (addCall rig7 (pos 1000) (pos epoch) set (pos time))
+
+abbrev pub endAt : ℕ → ℕ → ℕ → Call
+endAt epoch verdict time = call (endCall rig7 (pos 1000) (pos epoch) verdict (pos time))
+
+abbrev pub ackAt : ℕ → ℕ → Call
+ackAt epoch position = call (ackCall 0 (pos 1000) (pos epoch) position)
+
+abbrev pub tickAt : ℕ → Call
+tickAt time = call (tickCall (pos time))
+
+abbrev pub flushed : ℕ → Call
+flushed n = call (flushCall n)
+
 -- ---- calls of `lab3`, which comes second and has place 1 and pid 1001
 
 abbrev pub lab3 : List ℕ
@@ -100,6 +119,11 @@ beginsBoth set = holdsBoth ++ (join ∷ add3 set ∷ call (flushCall 240) ∷ []
 abbrev pub preparesBoth : List Call
 preparesBoth = beginsBoth 256 ++ (end7 0 ∷ end3 1 ∷ call (flushCall 374) ∷ [])
 
+-- ---- Init of a third name, `bay2`
+
+abbrev pub init2 : Call
+init2 = call (initCall (98 ∷ 97 ∷ 121 ∷ 50 ∷ []) (pos 50) (pos 100))
+
 -- ---- states given directly
 
 -- a record by name, pid, epoch, timeout, status, set, last update and start
@@ -125,6 +149,10 @@ record7 status epoch joined updated start = recordFor rig7 1000 epoch 60000 stat
 -- the table that holds `rig7` alone, in this status with this epoch and set; its record ends at 53
 abbrev pub rigTable : Status → ℕ → ℕ → Table
 rigTable status epoch joined = apply emptyTable 0 (withEnd (record7 status epoch joined 90 0) 53)
+
+-- the table that holds `rig7` alone in a BEGIN of this epoch, of partition 0 of `scan`, started at 80 and last updated at 90
+abbrev pub beginTable : ℕ → Table
+beginTable epoch = apply emptyTable 0 (withEnd (record7 Begin epoch 1 90 80) 53)
 
 -- the table with every place taken, none of them by `rig7` or `lab3`
 abbrev pub fullTable : Table
@@ -191,15 +219,15 @@ emptyRecords zero byte = []
 emptyRecords (suc n) byte = recordFor (byte ∷ []) byte 0 60000 Empty 0 100 0 ∷ emptyRecords n (byte + 1)
 
 -- the frames of records, one behind the other
-unfoldable pub framesOf : List Row → List ℕ
-framesOf [] = []
-framesOf (row ∷ rows) = frame (parse catalogueText .catalogue) (recordOf row) ++ framesOf rows
+unfoldable pub framesInOrder : List Row → List ℕ
+framesInOrder [] = []
+framesInOrder (row ∷ rows) = frame (parse catalogueText .catalogue) (recordOf row) ++ framesInOrder rows
 
 -- before any call: a log buffer that holds these records and n bytes behind them
 abbrev pub lentLog : ℕ → List Row → Server
 lentLog n rows =
-    record { coordinator = blankState; log = framesOf rows ++ replicate n 0; partition = openPartition 0; words = []; out = [] }
+    record { coordinator = blankState; log = framesInOrder rows ++ replicate n 0; partition = openPartition 0; words = []; out = [] }
 
 -- a line whose only call opens a log of these records in such a buffer; the last number is the log's end that it finds
 abbrev pub opens : ℕ → List Row → ℕ → List ℤ → ℕ → ℕ → Line
-opens n rows = lineFrom (lentLog n rows) [] (openLog catalogueText (length (framesOf rows)) (pos 1) (pos 1000) (pos 1999))
+opens n rows = lineFrom (lentLog n rows) [] (openLog catalogueText (length (framesInOrder rows)) (pos 1) (pos 1000) (pos 1999))

@@ -2,3 +2,5 @@
 pub mod Evaluated
 pub mod Sound
 pub mod Promised
+pub mod Values
+pub mod Demanded

@@ -2,3 +2,4 @@
 pub mod Checks
 pub mod Runs
 pub mod Examples
+pub mod Values

@@ -1,0 +1,23 @@
+-- The lines by theme: answers of the last call, and what is held after the calls.
+use mathlib.Core.List.{List, [], _++_}
+use Rattle.server.specs.Lines.{Line}
+use Rattle.examples.specs.Held.{HeldLine}
+use Rattle.examples.specs.EpochLines.{epochLines, epochHeld}
+use Rattle.examples.specs.ClockLines.{clockLines, clockHeld}
+use Rattle.examples.specs.SetLines.{setLines, setHeld}
+use Rattle.examples.specs.PidLines.{pidLines}
+use Rattle.examples.specs.PartitionLines.{markerPlaces, entryLines}
+
+pub data Theme : Type 0 where
+  epochs clock sets pids markers entries : Theme
+
+abbrev pub linesOf : Theme → List Line
+linesOf epochs = epochLines
+linesOf clock = clockLines
+linesOf sets = setLines
+linesOf pids = pidLines
+linesOf markers = markerPlaces
+linesOf entries = entryLines
+
+abbrev pub heldLines : List HeldLine
+heldLines = epochHeld ++ clockHeld ++ setHeld

@@ -1,0 +1,10 @@
+-- Proofs of the crate false_worlds.
+pub mod Differ
+pub mod Prepares
+pub mod Logs
+pub mod Words
+pub mod Orders
+pub mod Verdicts
+pub mod Progress
+pub mod Slices
+pub mod Tables
