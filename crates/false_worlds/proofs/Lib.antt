@@ -8,3 +8,4 @@ pub mod Verdicts
 pub mod Progress
 pub mod Slices
 pub mod Tables
+pub mod Pids

@@ -1,0 +1,2 @@
+-- Laws of the crate after_cut.
+pub mod Rounds

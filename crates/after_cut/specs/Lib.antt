@@ -1,0 +1,2 @@
+-- Definitions of the crate after_cut.
+pub mod AfterCut

@@ -1,0 +1,2 @@
+-- Laws of the crate cut_outcomes.
+pub mod Laws

@@ -1,0 +1,2 @@
+-- Definitions of the crate cut_outcomes.
+pub mod Outcomes
