@@ -9,6 +9,8 @@ many bytes of the log store, or words of a partition's store, are lent to the ca
     # ANYTHING                                        copied; so is an empty line
     catalogue TEXT                                    the text for later openings; `:` is a tab and `,` a line feed
     bytes AT HEX                                      bytes of the log store
+    epoch PLACE EPOCH                                 the id at that place then holds that epoch, 0 to 32767
+    sequence INDEX PLACE SEQUENCE                     the producer at that place of a partition then has that last sequence, 0 to 2147483647
     open LENT LENGTH EPOCH FIRST LAST                 a refused one leaves the coordinator as it was
     init LENT NAME TIMEOUT TIME
     add LENT NAME PID EPOCH SET TIME
@@ -24,9 +26,11 @@ many bytes of the log store, or words of a partition's store, are lent to the ca
     log FROM COUNT                                    bytes of the log store
     words INDEX FROM COUNT                            words of a partition's store
 
+`epoch` and `sequence` put there what calls would take too many lines to reach; the log and the words stay as they are.
 A call answers with its word, 0 or the number of the refusal, its results (`-` for none of an accepted init, tick or order), and what is then held:
 of the coordinator the log's end, the flushed length and the clock, of a partition its end, its coordinator epoch and its stable end. Behind that
-`read` has all the words of out. A line that is none of these, that has a number past its type or asks for a part that no store has, gets `?`.
+`read` has all the words of out. A line that is none of these, that has a number past its type or asks for a part that no store has or for an id or a
+producer that is not held, gets `?`.
 
 At the start all the stores are zeros, the catalogue is `scan:2,cert:1,`, an empty log is opened with 8192 bytes, coordinator epoch 1 and the pids
 1000 to 1999, and each partition is opened with 256 words.
@@ -41,7 +45,7 @@ LOG_ROOM, WORDS_ROOM, OUT_ROOM, TEXT_ROOM, PARTITIONS = 8192, 256, 64, 256, 3
 LINE_ROOM = 32768  # a line with its line feed
 UNTOUCHED = 7777
 
-FIELDS = {b"catalogue": ("bytes",), b"bytes": (U64, "bytes"), b"open": (U64, U64, I32, I64, I64),
+FIELDS = {b"catalogue": ("bytes",), b"bytes": (U64, "bytes"), b"epoch": (U64, I16), b"sequence": (U64, U64, I32), b"open": (U64, U64, I32, I64, I64),
           b"init": (U64, "bytes", I32, I64), b"add": (U64, "bytes", I64, I16, U64, I64), b"end": (U64, "bytes", I64, I16, U64, I64),
           b"tick": (U64, I64), b"flush": (U64,), b"order": (U64,), b"ack": (U64, U64, I64, I16, U64),
           b"partition": (U64, U64), b"produce": (U64, U64, "bytes", I64, I16, U64, I32, U64),
@@ -79,6 +83,18 @@ class Stores:
         if not re.fullmatch(rb"([0-9a-f]{2})*", digits):
             raise NoLine
         self.log[part(self.log, start, len(digits) // 2)] = bytes.fromhex(digits.decode())
+        return []
+
+    def epoch(self, place, epoch):
+        if place >= len(self.coordinator.ids) or epoch < 0:
+            raise NoLine
+        self.coordinator.ids[place]["epoch"] = epoch
+        return []
+
+    def sequence(self, index, place, sequence):
+        if index >= PARTITIONS or place not in self.partitions[index].producers or sequence < 0:
+            raise NoLine
+        self.partitions[index].producers[place]["last"] = sequence
         return []
 
     def shown_log(self, start, count):
@@ -158,7 +174,7 @@ class Stores:
         if line[:1] in (b"", b"#"):
             return line
         values = values_of(FIELDS[word], fields) if word in FIELDS else None
-        shown = {b"catalogue": self.catalogue, b"bytes": self.bytes, b"log": self.shown_log, b"words": self.shown_words}
+        shown = {b"catalogue": self.catalogue, b"bytes": self.bytes, b"epoch": self.epoch, b"sequence": self.sequence, b"log": self.shown_log, b"words": self.shown_words}
         try:
             if values is None:
                 raise NoLine

@@ -16,6 +16,8 @@ pub enum Kind {
     Bytes,
     Log,
     Words,
+    Epoch,
+    Sequence,
     Open,
     Init,
     Add,
@@ -271,6 +273,17 @@ fn partition_kind(line: &[u8]) -> Kind {
     Kind::Unknown
 }
 
+// A line that changes what a state holds.
+fn state_kind(line: &[u8]) -> Kind {
+    if is_line(line, b"epoch", b"us") {
+        return Kind::Epoch;
+    }
+    if is_line(line, b"sequence", b"uui") {
+        return Kind::Sequence;
+    }
+    partition_kind(line)
+}
+
 // A line that writes or shows a store.
 fn store_kind(line: &[u8]) -> Kind {
     if is_line(line, b"catalogue", b"t") {
@@ -285,7 +298,7 @@ fn store_kind(line: &[u8]) -> Kind {
     if is_line(line, b"words", b"uuu") {
         return Kind::Words;
     }
-    partition_kind(line)
+    state_kind(line)
 }
 
 // A line with a call of a producer, or with Ack.

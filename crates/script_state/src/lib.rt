@@ -2,6 +2,7 @@
 use call_lines::Kind;
 use coordinator::Coordinator;
 use partition::Partition;
+use row::Row;
 ghost use Prim.Native.Nat.{_<_};
 
 pub const PARTITIONS: usize = 3;
@@ -42,6 +43,87 @@ fn set_text(s: State, line: &[u8]) -> State {
     u.text = text;
     u.length = length;
     u
+}
+
+// A state in which the id at a place holds this epoch.
+fn with_epoch(s: State, rows: [Row; answers::PLACES], place: usize, epoch: u16) -> State
+    requires { ⌜ place < 32 ⌝ }
+{
+    let mut changed = rows;
+    let mut row = rows[place];
+    row.epoch = epoch;
+    changed[place] = row;
+    let mut table = s.coordinator.table;
+    table.rows = changed;
+    let mut c = s.coordinator;
+    c.table = table;
+    with_coordinator(s, c)
+}
+
+// A line with another epoch for the id at a place: calls would take as many turns to get there.
+fn set_epoch(s: State, line: &[u8]) -> State {
+    let place = call_lines::place(line, 1);
+    let epoch = call_lines::signed_16(line, 2);
+    if answers::PLACES <= place {
+        call_answers::unknown();
+        return s;
+    }
+    let rows = s.coordinator.table.rows;
+    if row::free(rows[place]) || epoch < 0 {
+        call_answers::unknown();
+        return s;
+    }
+    call_answers::word(line);
+    call_answers::end_line();
+    with_epoch(s, rows, place, numbers::natural_i16(epoch))
+}
+
+// The partition in which the producer at a place has this last sequence.
+fn with_sequence(p: Partition, place: usize, sequence: u32) -> Partition
+    requires { ⌜ place < 32 ⌝ }
+{
+    let mut producers = p.producers;
+    let mut producer = producers[place];
+    producer.sequence = sequence;
+    producers[place] = producer;
+    let mut u = p;
+    u.producers = producers;
+    u
+}
+
+// Whether a partition has a producer at a place.
+fn has_producer(p: Partition, place: usize) -> bool
+    requires { ⌜ place < 32 ⌝ }
+{
+    let producers = p.producers;
+    producers[place].pid != partition::NO_PID
+}
+
+// A line with another last sequence for the producer at a place of a partition.
+fn set_sequence(s: State, line: &[u8]) -> State {
+    let index = call_lines::place(line, 1);
+    let place = call_lines::place(line, 2);
+    let sequence = call_lines::signed_32(line, 3);
+    if PARTITIONS <= index {
+        call_answers::unknown();
+        return s;
+    }
+    if answers::PLACES <= place {
+        call_answers::unknown();
+        return s;
+    }
+    let p = s.partitions[index];
+    if !has_producer(p, place) || sequence < 0 {
+        call_answers::unknown();
+        return s;
+    }
+    call_answers::word(line);
+    call_answers::end_line();
+    with_partition(
+        s,
+        index,
+        with_sequence(p, place, numbers::natural_i32(sequence)),
+    )
 }
 
 // A line with a call of the coordinator.
@@ -121,6 +203,8 @@ pub fn perform(s: State, line: &[u8], log: &mut [u8], words: &mut [u64]) -> Stat
             s
         }
         Kind::Catalogue => set_text(s, line),
+        Kind::Epoch => set_epoch(s, line),
+        Kind::Sequence => set_sequence(s, line),
         Kind::Words | Kind::Partition | Kind::Produce | Kind::Marker | Kind::Read => {
             call_partition(s, kind, line, words)
         }
