@@ -9,7 +9,7 @@ many bytes of the log store, or words of a partition's store, are lent to the ca
     # ANYTHING                                        copied; so is an empty line
     catalogue TEXT                                    the text for later openings; `:` is a tab and `,` a line feed
     bytes AT HEX                                      bytes of the log store
-    epoch PLACE EPOCH                                 the id at that place then holds that epoch, 0 to 32767
+    epoch PLACE EPOCH                                 the id at that place then holds that epoch, 0 to 32766
     sequence INDEX PLACE SEQUENCE                     the producer at that place of a partition then has that last sequence, 0 to 2147483647
     open LENT LENGTH EPOCH FIRST LAST                 a refused one leaves the coordinator as it was
     init LENT NAME TIMEOUT TIME
@@ -39,6 +39,7 @@ import re
 import sys
 
 from fields import I16, I32, I64, U64, values_of
+from frames import EPOCH_LAST
 from model import Partition, Refused, opening
 
 LOG_ROOM, WORDS_ROOM, OUT_ROOM, TEXT_ROOM, PARTITIONS = 8192, 256, 64, 256, 3
@@ -86,7 +87,7 @@ class Stores:
         return []
 
     def epoch(self, place, epoch):
-        if place >= len(self.coordinator.ids) or epoch < 0:
+        if place >= len(self.coordinator.ids) or not 0 <= epoch <= EPOCH_LAST:
             raise NoLine
         self.coordinator.ids[place]["epoch"] = epoch
         return []

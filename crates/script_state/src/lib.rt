@@ -63,19 +63,20 @@ fn with_epoch(s: State, rows: [Row; answers::PLACES], place: usize, epoch: u16) 
 // A line with another epoch for the id at a place: calls would take as many turns to get there.
 fn set_epoch(s: State, line: &[u8]) -> State {
     let place = call_lines::place(line, 1);
-    let epoch = call_lines::signed_16(line, 2);
+    let written = call_lines::signed_16(line, 2);
     if answers::PLACES <= place {
         call_answers::unknown();
         return s;
     }
     let rows = s.coordinator.table.rows;
-    if row::free(rows[place]) || epoch < 0 {
+    let epoch = numbers::natural_i16(written);
+    if row::free(rows[place]) || written < 0 || row::EPOCH_LAST < epoch {
         call_answers::unknown();
         return s;
     }
     call_answers::word(line);
     call_answers::end_line();
-    with_epoch(s, rows, place, numbers::natural_i16(epoch))
+    with_epoch(s, rows, place, epoch)
 }
 
 // The partition in which the producer at a place has this last sequence.
