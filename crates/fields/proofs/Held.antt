@@ -2,13 +2,16 @@
 use Prim.Native.Nat.{ℕ, _≤_, _<_, min}
 use mathlib.Core.Path.{_≡_, sym, ap, _∙_}
 use mathlib.Core.List.{List}
-use mathlib.Core.Option.{Option}
+use mathlib.Core.Option.{Option, some}
 use native.Mathlib.Omega.{arith}
 use lib.IntN.{ℤ}
 use lib.ListN.{take, getD, length-take, List·getD-eq-default}
 use lib.Seq.{getD-take}
+use mir.Syntax.{Width}
+use mir.Val.{toZ, ofZ}
 use Rattle.fields.specs.Limits.{fieldsMax}
 use Rattle.fields.specs.Fields.{blank, fieldsOf, count, partAt, bytesOf, field, SplitInto, partIn, fieldIn}
+use Rattle.fields.specs.Numbers.{signed}
 use Rattle.fields.specs.declared.Part.{Part}
 use Rattle.fields.specs.declared.Fields.{Fields}
 
@@ -24,7 +27,7 @@ module _ (f : Fields) (k : ℕ) where
 -- ---- the fields of a line
 
 -- an answer that was told apart still holds what it held
-pub told : {C : Type 0} (value : C → Option ℤ) {o : Option ℤ} {r c : C} → value r ≡ o → r ≡ c → value c ≡ o
+pub told : {C D : Type 0} (value : C → D) {o : D} {r c : C} → value r ≡ o → r ≡ c → value c ≡ o
 told value e g = sym (ap value g) ∙ e
 
 module _ (line : List ℕ) (f : Fields) (into : SplitInto line f) where
@@ -48,3 +51,8 @@ module _ (line : List ℕ) (f : Fields) (into : SplitInto line f) where
     -- what an answer holds is what field k writes
     pub field-holds : {C : Type 0} (value : C → Option ℤ) (reads : List ℕ → Option ℤ) {r c : C} → value r ≡ reads (fieldIn line f k) → r ≡ c → reads (field line k) ≡ value c
     field-holds value reads e g = sym (told value (e ∙ ap reads field-in) g)
+
+    -- a signed number goes through its bits
+    pub signed-holds : (w : Width) {C : Type 0} (value : C → Option ℤ) {r c : C} {z : ℤ} → value r ≡ signed w (fieldIn line f k) → r ≡ c → value c ≡ some z → toZ w (ofZ w z) ≡ z
+        → signed w (field line k) ≡ some (toZ w (ofZ w z))
+    signed-holds w value e g h q = field-holds value (signed w) e g ∙ h ∙ ap some (sym q)
