@@ -187,7 +187,7 @@ pub fn perform(
             sequence,
             payload,
         } => {
-            let name = session::bytes_of(line, name);
+            let name = fields::bytes_of(line, name);
             let position = position as usize;
             put(s, words, name, pid, epoch, position, sequence, payload)
         }
