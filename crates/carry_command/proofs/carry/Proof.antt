@@ -1,12 +1,12 @@
--- `session_commands::carry` meets its contract.
+-- `carry_command::carry` meets its contract.
 use mathlib.Core.Path.{_≡_, refl, sym, _∙_}
 use mir.Syntax.{w16, w32, w64}
 use mir.Val.{toZ, ofZ}
 use Rattle.session.specs.Memory.{memory}
 use Rattle.session.proofs.CommandSteps.{carried-order, carried-none}
 use borrow.Author.Needs.{needs}
-use Rattle.session_commands.proofs.carry.Statement.{statement}
-use Rattle.session_commands.proofs.carry.Tie as tie
+use Rattle.carry_command.proofs.carry.Statement.{statement}
+use Rattle.carry_command.proofs.carry.Tie as tie
 
 same-pid : (c : tie.After-known-told) → let v = c .before .place .given .0 in toZ w64 (ofZ w64 (v .1 .0)) ≡ v .1 .0
 same-pid c = search needs

@@ -1,4 +1,4 @@
--- `session_commands::deliver` meets its contract.
+-- `carry_command::deliver` meets its contract.
 use Prim.Native.Nat.{ℕ, _-_, _+_}
 use mathlib.Core.Path.{sym, ap, _∙_}
 use mathlib.Core.List.{List}
@@ -12,8 +12,8 @@ use Rattle.session.specs.Memory.{memory, indexOf, share}
 use Rattle.session.specs.Commands.{Outcome, called, acknowledges, Performs}
 use Rattle.session.proofs.CommandSteps.{partition-performs, goes-on, stops}
 use borrow.Author.Needs.{needs}
-use Rattle.session_commands.proofs.deliver.Statement.{statement}
-use Rattle.session_commands.proofs.deliver.Tie as tie
+use Rattle.carry_command.proofs.deliver.Statement.{statement}
+use Rattle.carry_command.proofs.deliver.Tie as tie
 
 abbrev start : tie.After-with-partition → tie.Start
 start c = c .before .before .before .before .before .before .before .before .before .before .before .before

@@ -1,4 +1,4 @@
--- `session_commands::acknowledge` meets its contract.
+-- `carry_command::acknowledge` meets its contract.
 use mathlib.Core.Path.{ap, _∙_}
 use mathlib.Core.List.{[], _∷_}
 use lib.IntN.{pos}
@@ -11,8 +11,8 @@ use Rattle.session.specs.Commands.{answered}
 use Rattle.session.specs.Memory.{indexOf}
 use Rattle.session.proofs.CommandSteps.{coordinator-performs}
 use borrow.Author.Needs.{needs}
-use Rattle.session_commands.proofs.acknowledge.Statement.{statement}
-use Rattle.session_commands.proofs.acknowledge.Tie as tie
+use Rattle.carry_command.proofs.acknowledge.Statement.{statement}
+use Rattle.carry_command.proofs.acknowledge.Tie as tie
 
 ack-requires : tie.Need-ack-requires
 ack-requires c κs = search needs
