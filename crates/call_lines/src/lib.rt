@@ -1,13 +1,7 @@
 // The lines of a call script: the fields of a line, the numbers that they write, and which line it is by its word and the kinds of its fields.
+use fields::Number;
 ghost use Prim.Native.Nat.{_≤_, _<_};
 ghost use lib.ListN.{length};
-
-// What a run of bytes writes: n, or −(n + 1), or no number that 64 bits and a sign hold.
-enum Written {
-    Natural(u64),
-    Negative(u64),
-    Bad,
-}
 
 // Which line it is.
 pub enum Kind {
@@ -90,68 +84,23 @@ fn spaces(line: &[u8]) -> usize {
 
 // ---- Numbers.
 
-// What the bytes from `at` on write in decimal.
-fn digits(s: &[u8], at: usize) -> Written {
-    if s.len() <= at {
-        return Written::Bad;
-    }
-    let mut value: u64 = 0;
-    let mut i = at;
-    while i < s.len() {
-        let b = s[i];
-        if b < b'0' {
-            return Written::Bad;
-        }
-        if b'9' < b {
-            return Written::Bad;
-        }
-        let d = (b - b'0') as u64;
-        if (u64::MAX - d) / 10 < value {
-            return Written::Bad;
-        }
-        value = value * 10 + d;
-        i += 1;
-    }
-    Written::Natural(value)
-}
-
-// A number with the other sign.
-fn negated(n: Written) -> Written {
-    match n {
-        Written::Natural(k) => {
-            if k == 0 {
-                return Written::Natural(0);
-            }
-            Written::Negative(k - 1)
-        }
-        _ => Written::Bad,
-    }
-}
-
-// What a run of bytes writes.
-fn number(s: &[u8]) -> Written {
-    if s.len() == 0 {
-        return Written::Bad;
-    }
-    if s[0] == b'-' {
-        return negated(digits(s, 1));
-    }
-    digits(s, 0)
+// What a run of bytes writes, if 64 bits and a sign hold it.
+fn number(s: &[u8]) -> Number {
+    fields::read_number(s, u64::MAX, u64::MAX)
 }
 
 // Whether a run writes a number from −below to most.
 fn within(s: &[u8], below: u64, most: u64) -> bool {
-    match number(s) {
-        Written::Natural(n) => n <= most,
-        Written::Negative(n) => n < below,
-        Written::Bad => false,
+    match fields::read_number(s, below, most) {
+        Number::Bad => false,
+        _ => true,
     }
 }
 
 // The number of field k, 0 if it writes none; one past its type becomes the nearest.
 pub fn unsigned(line: &[u8], k: usize) -> u64 {
     match number(field(line, k)) {
-        Written::Natural(n) => n,
+        Number::Natural(n) => n,
         _ => 0,
     }
 }
@@ -162,25 +111,25 @@ pub fn place(line: &[u8], k: usize) -> usize {
 
 pub fn signed_16(line: &[u8], k: usize) -> i16 {
     match number(field(line, k)) {
-        Written::Natural(n) => numbers::signed_i16(n),
-        Written::Negative(n) => !numbers::signed_i16(n),
-        Written::Bad => 0,
+        Number::Natural(n) => numbers::signed_i16(n),
+        Number::Negative(n) => !numbers::signed_i16(n),
+        Number::Bad => 0,
     }
 }
 
 pub fn signed_32(line: &[u8], k: usize) -> i32 {
     match number(field(line, k)) {
-        Written::Natural(n) => numbers::signed_i32(n),
-        Written::Negative(n) => !numbers::signed_i32(n),
-        Written::Bad => 0,
+        Number::Natural(n) => numbers::signed_i32(n),
+        Number::Negative(n) => !numbers::signed_i32(n),
+        Number::Bad => 0,
     }
 }
 
 pub fn signed_64(line: &[u8], k: usize) -> i64 {
     match number(field(line, k)) {
-        Written::Natural(n) => numbers::signed_i64(n),
-        Written::Negative(n) => !numbers::signed_i64(n),
-        Written::Bad => 0,
+        Number::Natural(n) => numbers::signed_i64(n),
+        Number::Negative(n) => !numbers::signed_i64(n),
+        Number::Bad => 0,
     }
 }
 

@@ -12,11 +12,11 @@ use lib.ListN.{length, List·getD-eq-default}
 use mir.Syntax.{w16, w32, w64}
 use Rattle.numbers.specs.Signed.{toNat}
 use Rattle.numbers.specs.Bytes.{same}
-use Rattle.command.specs.Numbers.{signed, unsigned}
+use Rattle.fields.specs.Numbers.{signed, unsigned}
 use Rattle.numbers.proofs.Bytes.{same-true}
 use Rattle.search.specs.Search.{EachAt}
 use Rattle.search.proofs.Laws.{first-found}
-use Rattle.command.specs.Fields.{count, partAt, field}
+use Rattle.fields.specs.Fields.{count, partAt, field}
 use Rattle.command.specs.Words.{words, unknown, rowOf, wordAt}
 use Rattle.command.specs.Command.{given, ofFields, int16, int32, int64, uint64, initOf, addOf, endOf, tickOf, flushOf, putOf, carryOf, readOf, cutOf, commandsOf, commandAt, commandOf, rowOfCommand}
 use Rattle.command.specs.declared.Command.{Command}

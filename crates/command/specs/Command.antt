@@ -1,5 +1,6 @@
 -- The command that a line is.
 use Prim.Native.Nat.{ℕ}
+use mathlib.Core.Path.{_≡_}
 use mathlib.Core.Bool.{cond}
 use mathlib.Core.List.{List, [], _∷_}
 use mathlib.Core.Option.{Option, none, some}
@@ -8,11 +9,9 @@ use lib.IntN.{ℤ}
 use lib.ListN.{getD}
 use mir.Syntax.{w16, w32, w64}
 use Rattle.numbers.specs.Signed.{toNat}
+use Rattle.fields.specs.Fields.{count, partAt, field}
+use Rattle.fields.specs.Numbers.{signed, unsigned}
 use Rattle.command.specs.Words.{rowOf}
-use Rattle.command.specs.Fields.{count, partAt, field}
-use Rattle.command.specs.Numbers.{signed, unsigned, heldNatural}
-use Rattle.command.specs.declared.Unsigned64.{Unsigned64}
-use Rattle.command.specs.declared.Unsigned64.the-variants.{Bad as BadNatural}
 use Rattle.command.specs.declared.Change.{Change}
 use Rattle.command.specs.declared.Change.the-variants.{Is, Bad}
 use Rattle.command.specs.declared.Command.{Command}
@@ -95,24 +94,18 @@ commandAt row line = getD (commandsOf line) row Unknown
 unfoldable pub commandOf : List ℕ → Command
 commandOf line = commandAt (rowOf (field line 0)) line
 
--- ---- the same as the code has it: a number that stands alone behind the word, and the numbers of a change
+-- ---- the same as the code has it: a number that stands alone behind the word, and what the numbers of a change make
 
-abbrev pub oneNumber : List ℕ → Unsigned64
-oneNumber line = cond (eqb (count line) 2) (heldNatural (unsigned (field line 1))) BadNatural
+abbrev pub oneNumber : List ℕ → Option ℤ
+oneNumber line = cond (eqb (count line) 2) (unsigned (field line 1)) none
 
--- the four numbers where all are there
-abbrev pub changeOfNumbers : Option ℤ → Option ℤ → Option ℤ → Option ℤ → Change
-changeOfNumbers (some pid) (some epoch) (some value) (some time) = Is pid epoch (toNat value) time
-changeOfNumbers (some pid) (some epoch) (some value) none = Bad
-changeOfNumbers (some pid) (some epoch) none time = Bad
-changeOfNumbers (some pid) none value time = Bad
-changeOfNumbers none epoch value time = Bad
+abbrev pub changeMade : (ℤ → ℤ → ℕ → ℤ → Command) → Change → Command
+changeMade f (Is pid epoch value time) = f pid epoch value time
+changeMade f Bad = Unknown
 
-abbrev pub heldChange : List ℕ → Change
-heldChange line =
-    cond (eqb (count line) 6)
-    (changeOfNumbers (signed w64 (field line 2)) (signed w16 (field line 3)) (unsigned (field line 4)) (signed w64 (field line 5)))
-    Bad
+-- the numbers of a change make of every command what the line makes of it
+abbrev pub ReadsChange : List ℕ → Change → Type 0
+ReadsChange line r = (f : ℤ → ℤ → ℕ → ℤ → Command) → changeMade f r ≡ changeOf line f
 
 -- the row of a command's word
 abbrev pub rowOfCommand : Command → ℕ

@@ -1,6 +1,6 @@
 -- The words of the commands.
 use Prim.Native.Nat.{ℕ}
-use mathlib.Core.List.{List, [], _∷_, _++_}
+use mathlib.Core.List.{List, [], _∷_}
 use lib.ListN.{getD}
 use Rattle.numbers.specs.Bytes.{same}
 use Rattle.search.specs.Search.{firstWhere}

@@ -1,18 +1,21 @@
 // A command line as a command: its word and its fields.
+use fields::Fields;
+use fields::Part;
+use fields::Signed16;
+use fields::Signed32;
+use fields::Signed64;
+use fields::Unsigned64;
 ghost use mathlib.Core.Path.{_≡_};
-ghost use Prim.Native.Nat.{_<_, min};
-ghost use lib.ListN.{length, take, drop, getD};
-ghost use mir.Syntax.{w16, w32, w64};
+ghost use Prim.Native.Nat.{min};
+ghost use lib.ListN.{length, take};
 ghost use Rattle.numbers.specs.Bytes.{same};
-ghost use Rattle.command.specs.Limits.{fieldsMax, commands};
+ghost use Rattle.fields.specs.Fields.{SplitInto};
+ghost use Rattle.fields.specs.Numbers.{valueUnsigned};
+ghost use Rattle.command.specs.Limits.{commands};
 ghost use Rattle.command.specs.Words.{wordAt, rowOf};
-ghost use Rattle.command.specs.Fields.{separates, blank, SplitInto, count, field};
-ghost use Rattle.command.specs.Numbers.{naturalOf, heldDigits, hasSign, numberWithin, withSign, signed, unsigned, held16, held32, held64, heldNatural};
-ghost use Rattle.command.specs.Command.{oneNumber, heldChange, initOf, addOf, endOf, tickOf, flushOf, putOf, carryOf, readOf, cutOf, commandAt, commandOf, rowOfCommand};
+ghost use Rattle.command.specs.Command.{oneNumber, ReadsChange, initOf, addOf, endOf, tickOf, flushOf, putOf, carryOf, readOf, cutOf, commandAt, commandOf, rowOfCommand};
 
 // The limits of specs/Limits.antt, under the same names.
-pub const FIELDS_MAX: usize = 7;
-
 pub const WORD_MAX: usize = 5;
 
 pub const COMMANDS: usize = 9;
@@ -34,12 +37,6 @@ const WORDS: [[u8; WORD_MAX]; COMMANDS + 1] = [
 // A word: the first bytes of an array.
 pub struct Word {
     pub letters: [u8; WORD_MAX],
-    pub len: usize,
-}
-
-// A part of a line: where it starts and how many bytes it has.
-pub struct Part {
-    pub from: usize,
     pub len: usize,
 }
 
@@ -86,46 +83,6 @@ pub enum Command {
         kept: u64,
     },
     Unknown,
-}
-
-// The fields of a line, of which the first `count` parts are set; a line of more than seven has count 8.
-struct Fields {
-    parts: [Part; FIELDS_MAX],
-    count: usize,
-}
-
-// What digits write, if that is a number of 64 bits.
-enum Digits {
-    Value(u64),
-    Bad,
-}
-
-// What a field writes: n, or −(n + 1), or no number within its limits.
-enum Number {
-    Natural(u64),
-    Negative(u64),
-    Bad,
-}
-
-// A number of each type, or that a field writes none.
-enum Signed16 {
-    Is(i16),
-    Bad,
-}
-
-enum Signed32 {
-    Is(i32),
-    Bad,
-}
-
-enum Signed64 {
-    Is(i64),
-    Bad,
-}
-
-enum Unsigned64 {
-    Is(u64),
-    Bad,
 }
 
 // The numbers of an Add or End behind its name, or that one of them is missing or bad.
@@ -182,199 +139,17 @@ fn row_of(run: &[u8]) -> usize
     row
 }
 
-// ---- Fields.
-
-// Tabs and spaces part fields.
-fn separates(b: u8) -> bool
-    ensures { λ r. ⌜ r ≡ separates b ⌝ }
-{
-    b == b'\t' || b == b' '
-}
-
-// The fields of a line; no command has more than seven, so the rest of a longer line is not read.
-fn split(line: &[u8]) -> Fields
-    ensures { λ r. ⌜ SplitInto (now (line .entry)) r ⌝ }
-{
-    let mut parts = [Part { from: 0, len: 0 }; FIELDS_MAX];
-    let mut count: usize = 0;
-    let mut from: usize = 0;
-    let mut i: usize = 0;
-    while i < line.len() {
-        if separates(line[i]) {
-            parts[count] = Part {
-                from,
-                len: i - from,
-            };
-            count += 1;
-            if count == FIELDS_MAX {
-                return Fields {
-                    parts,
-                    count: FIELDS_MAX + 1,
-                };
-            }
-            from = i + 1;
-        }
-        i += 1;
-    }
-    parts[count] = Part {
-        from,
-        len: i - from,
-    };
-    Fields {
-        parts,
-        count: count + 1,
-    }
-}
-
-// ---- Numbers.
-
-// What the bytes from `at` on write in decimal.
-fn read_digits(s: &[u8], at: usize) -> Digits
-    ensures { λ r. ⌜ r ≡ heldDigits (naturalOf (drop at (now (s .entry)))) ⌝ }
-{
-    if s.len() <= at {
-        return Digits::Bad;
-    }
-    let mut value: u64 = 0;
-    let mut i = at;
-    while i < s.len() {
-        let b = s[i];
-        if b < b'0' {
-            return Digits::Bad;
-        }
-        if b'9' < b {
-            return Digits::Bad;
-        }
-        let d = (b - b'0') as u64;
-        if (u64::MAX - d) / 10 < value {
-            return Digits::Bad;
-        }
-        value = value * 10 + d;
-        i += 1;
-    }
-    Digits::Value(value)
-}
-
-// A number behind its sign, if it is at least −below.
-fn read_negative(s: &[u8], below: u64) -> Number
-    ensures { λ r. ⌜ r ≡ withSign below (naturalOf (drop 1 (now (s .entry)))) ⌝ }
-{
-    match read_digits(s, 1) {
-        Digits::Value(n) => {
-            if n == 0 {
-                return Number::Natural(0);
-            }
-            if n <= below {
-                Number::Negative(n - 1)
-            } else {
-                Number::Bad
-            }
-        }
-        Digits::Bad => Number::Bad,
-    }
-}
-
-// Whether a sign stands first.
-fn has_sign(s: &[u8]) -> bool
-    ensures { λ r. ⌜ r ≡ hasSign (now (s .entry)) ⌝ }
-{
-    if s.len() == 0 {
-        return false;
-    }
-    s[0] == b'-'
-}
-
-// What a run of bytes writes, if it is from −below to most.
-fn read_number(s: &[u8], below: u64, most: u64) -> Number
-    ensures { λ r. ⌜ r ≡ numberWithin below most (now (s .entry)) ⌝ }
-{
-    if has_sign(s) {
-        return read_negative(s, below);
-    }
-    match read_digits(s, 0) {
-        Digits::Value(n) => {
-            if n <= most {
-                Number::Natural(n)
-            } else {
-                Number::Bad
-            }
-        }
-        Digits::Bad => Number::Bad,
-    }
-}
-
-// What field k writes.
-fn field_number(line: &[u8], fields: Fields, k: usize, below: u64, most: u64) -> Number
-    requires { ⌜ SplitInto (now line) fields × (k < fields .count) × (k < fieldsMax) ⌝ }
-    ensures { λ r. ⌜ r ≡ numberWithin below most (field (now (line .entry)) k) ⌝ }
-{
-    let part = fields.parts[k];
-    let from = part.from;
-    let end = from + part.len;
-    read_number(&line[from..end], below, most)
-}
-
-fn signed_16(line: &[u8], fields: Fields, k: usize) -> Signed16
-    requires { ⌜ SplitInto (now line) fields × (k < fields .count) × (k < fieldsMax) ⌝ }
-    ensures { λ r. ⌜ r ≡ held16 (signed w16 (field (now (line .entry)) k)) ⌝ }
-{
-    match field_number(line, fields, k, 0x8000, 0x7fff) {
-        Number::Natural(n) => Signed16::Is(n as i16),
-        Number::Negative(n) => Signed16::Is(!(n as i16)),
-        Number::Bad => Signed16::Bad,
-    }
-}
-
-fn signed_32(line: &[u8], fields: Fields, k: usize) -> Signed32
-    requires { ⌜ SplitInto (now line) fields × (k < fields .count) × (k < fieldsMax) ⌝ }
-    ensures { λ r. ⌜ r ≡ held32 (signed w32 (field (now (line .entry)) k)) ⌝ }
-{
-    match field_number(line, fields, k, 0x8000_0000, 0x7fff_ffff) {
-        Number::Natural(n) => Signed32::Is(n as i32),
-        Number::Negative(n) => Signed32::Is(!(n as i32)),
-        Number::Bad => Signed32::Bad,
-    }
-}
-
-fn signed_64(line: &[u8], fields: Fields, k: usize) -> Signed64
-    requires { ⌜ SplitInto (now line) fields × (k < fields .count) × (k < fieldsMax) ⌝ }
-    ensures { λ r. ⌜ r ≡ held64 (signed w64 (field (now (line .entry)) k)) ⌝ }
-{
-    match field_number(
-        line,
-        fields,
-        k,
-        0x8000_0000_0000_0000,
-        0x7fff_ffff_ffff_ffff,
-    ) {
-        Number::Natural(n) => Signed64::Is(n as i64),
-        Number::Negative(n) => Signed64::Is(!(n as i64)),
-        Number::Bad => Signed64::Bad,
-    }
-}
-
-fn unsigned_64(line: &[u8], fields: Fields, k: usize) -> Unsigned64
-    requires { ⌜ SplitInto (now line) fields × (k < fields .count) × (k < fieldsMax) ⌝ }
-    ensures { λ r. ⌜ r ≡ heldNatural (unsigned (field (now (line .entry)) k)) ⌝ }
-{
-    match field_number(line, fields, k, 0, u64::MAX) {
-        Number::Natural(n) => Unsigned64::Is(n),
-        Number::Negative(_) => Unsigned64::Bad,
-        Number::Bad => Unsigned64::Bad,
-    }
-}
-
 // ---- Commands.
 
 // The one number of a line that has no other field behind its word.
 fn one_number(line: &[u8], fields: Fields) -> Unsigned64
     requires { ⌜ SplitInto (now line) fields ⌝ }
-    ensures { λ r. ⌜ r ≡ oneNumber (now (line .entry)) ⌝ }
+    ensures { λ r. ⌜ valueUnsigned r ≡ oneNumber (now (line .entry)) ⌝ }
 {
     if fields.count != 2 {
         return Unsigned64::Bad;
     }
-    unsigned_64(line, fields, 1)
+    fields::unsigned_64(line, fields, 1)
 }
 
 fn init_of(line: &[u8], fields: Fields) -> Command
@@ -384,13 +159,13 @@ fn init_of(line: &[u8], fields: Fields) -> Command
     if fields.count != 4 {
         return Command::Unknown;
     }
-    let Signed32::Is(timeout) = signed_32(line, fields, 2) else {
+    let Signed32::Is(timeout) = fields::signed_32(line, fields, 2) else {
         return Command::Unknown;
     };
-    let Signed64::Is(time) = signed_64(line, fields, 3) else {
+    let Signed64::Is(time) = fields::signed_64(line, fields, 3) else {
         return Command::Unknown;
     };
-    let name = fields.parts[1];
+    let name = fields::part_in(fields, 1);
     Command::Init {
         name,
         timeout,
@@ -401,21 +176,21 @@ fn init_of(line: &[u8], fields: Fields) -> Command
 // Add and End have the same fields.
 fn change_of(line: &[u8], fields: Fields) -> Change
     requires { ⌜ SplitInto (now line) fields ⌝ }
-    ensures { λ r. ⌜ r ≡ heldChange (now (line .entry)) ⌝ }
+    ensures { λ r. ⌜ ReadsChange (now (line .entry)) r ⌝ }
 {
     if fields.count != 6 {
         return Change::Bad;
     }
-    let Signed64::Is(pid) = signed_64(line, fields, 2) else {
+    let Signed64::Is(pid) = fields::signed_64(line, fields, 2) else {
         return Change::Bad;
     };
-    let Signed16::Is(epoch) = signed_16(line, fields, 3) else {
+    let Signed16::Is(epoch) = fields::signed_16(line, fields, 3) else {
         return Change::Bad;
     };
-    let Unsigned64::Is(value) = unsigned_64(line, fields, 4) else {
+    let Unsigned64::Is(value) = fields::unsigned_64(line, fields, 4) else {
         return Change::Bad;
     };
-    let Signed64::Is(time) = signed_64(line, fields, 5) else {
+    let Signed64::Is(time) = fields::signed_64(line, fields, 5) else {
         return Change::Bad;
     };
     Change::Is {
@@ -430,7 +205,7 @@ fn add_of(line: &[u8], fields: Fields) -> Command
     requires { ⌜ SplitInto (now line) fields ⌝ }
     ensures { λ r. ⌜ r ≡ addOf (now (line .entry)) ⌝ }
 {
-    let name = fields.parts[1];
+    let name = fields::part_in(fields, 1);
     match change_of(line, fields) {
         Change::Is {
             pid,
@@ -454,7 +229,7 @@ fn end_of(line: &[u8], fields: Fields) -> Command
     requires { ⌜ SplitInto (now line) fields ⌝ }
     ensures { λ r. ⌜ r ≡ endOf (now (line .entry)) ⌝ }
 {
-    let name = fields.parts[1];
+    let name = fields::part_in(fields, 1);
     match change_of(line, fields) {
         Change::Is {
             pid,
@@ -481,7 +256,7 @@ fn tick_of(line: &[u8], fields: Fields) -> Command
     if fields.count != 2 {
         return Command::Unknown;
     }
-    match signed_64(line, fields, 1) {
+    match fields::signed_64(line, fields, 1) {
         Signed64::Is(time) => Command::Tick { time },
         Signed64::Bad => Command::Unknown,
     }
@@ -504,22 +279,22 @@ fn put_of(line: &[u8], fields: Fields) -> Command
     if fields.count != 7 {
         return Command::Unknown;
     }
-    let Signed64::Is(pid) = signed_64(line, fields, 2) else {
+    let Signed64::Is(pid) = fields::signed_64(line, fields, 2) else {
         return Command::Unknown;
     };
-    let Signed16::Is(epoch) = signed_16(line, fields, 3) else {
+    let Signed16::Is(epoch) = fields::signed_16(line, fields, 3) else {
         return Command::Unknown;
     };
-    let Unsigned64::Is(position) = unsigned_64(line, fields, 4) else {
+    let Unsigned64::Is(position) = fields::unsigned_64(line, fields, 4) else {
         return Command::Unknown;
     };
-    let Signed32::Is(sequence) = signed_32(line, fields, 5) else {
+    let Signed32::Is(sequence) = fields::signed_32(line, fields, 5) else {
         return Command::Unknown;
     };
-    let Unsigned64::Is(payload) = unsigned_64(line, fields, 6) else {
+    let Unsigned64::Is(payload) = fields::unsigned_64(line, fields, 6) else {
         return Command::Unknown;
     };
-    let name = fields.parts[1];
+    let name = fields::part_in(fields, 1);
     Command::Put {
         name,
         pid,
@@ -583,11 +358,8 @@ fn command_at(row: usize, line: &[u8], fields: Fields) -> Command
 pub fn parse(line: &[u8]) -> Command
     ensures { λ r. ⌜ r ≡ commandOf (now (line .entry)) ⌝ }
 {
-    let fields = split(line);
-    let part = fields.parts[0];
-    let from = part.from;
-    let end = from + part.len;
-    let row = row_of(&line[from..end]);
+    let fields = fields::split(line);
+    let row = row_of(fields::field_in(line, fields, 0));
     command_at(row, line, fields)
 }
 

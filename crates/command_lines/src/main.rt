@@ -1,6 +1,6 @@
 // Reads command lines and writes what each is: its word, where its name stands, and the numbers of its fields, in lines of the listing's form.
 use command::Command;
-use command::Part;
+use fields::Part;
 use input_lines::Step;
 use libc::STDOUT_FILENO;
 use listing::Rendered;

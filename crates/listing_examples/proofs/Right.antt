@@ -7,8 +7,8 @@ use Rattle.search.specs.Search.{firstWhere, all}
 use Rattle.text.specs.Ascii.{ascii}
 use Rattle.text.specs.Decimal.{valueFrom, decimal, decimalWithin, signedDecimal}
 use Rattle.text.specs.Lines.{fields, line}
-use Rattle.command.specs.Fields.{part, fieldsFrom, fieldsOf}
-use Rattle.command.specs.Numbers.{naturalOf, integerOf}
+use Rattle.fields.specs.Fields.{part, fieldsFrom, fieldsOf}
+use Rattle.fields.specs.Numbers.{naturalOf, integerOf}
 use Rattle.command.specs.Command.{initOf, addOf, endOf, tickOf, flushOf, putOf, carryOf, readOf, cutOf, commandAt, commandOf}
 use Rattle.command.specs.declared.Command.the-variants.{Init, Add, End, Tick, Flush, Put, Carry, Read, Cut, Unknown}
 use Rattle.listing.specs.Listing.{accepted, refused, replyLine}

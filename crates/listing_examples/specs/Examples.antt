@@ -5,7 +5,7 @@ use mathlib.Core.List.{List, [], _∷_}
 use lib.IntN.{pos, negsuc}
 use Rattle.search.specs.Search.{Each}
 use Rattle.text.specs.Ascii.{ascii}
-use Rattle.command.specs.Fields.{part}
+use Rattle.fields.specs.Fields.{part}
 use Rattle.command.specs.Command.{commandOf, rowOfCommand}
 use Rattle.command.specs.declared.Command.{Command}
 use Rattle.command.specs.declared.Command.the-variants.{Init, Add, End, Tick, Flush, Put, Carry, Read, Cut, Unknown}

@@ -1,14 +1,13 @@
 -- What the code of a command makes, step by step, is what its definition says.
 use mathlib.Core.Path.{_≡_, refl, sym, ap, _∙_}
-use mathlib.Core.Bool.{Bool, true, false}
 use mathlib.Core.List.{List, [], _∷_}
-use Prim.Native.Nat.{ℕ, _+_, _-_, _*_, min}
+use Prim.Native.Nat.{ℕ, _+_, _-_, _*_}
 use native.Mathlib.Omega.{arith}
-use lib.Dec.{eqb, leb}
+use lib.Dec.{eqb}
 use lib.IntN.{ℤ}
-use lib.ListN.{length, take, drop, set, take-append-drop, length-drop, drop-of-length-le}
-use lib.Seq.{set-getD, drop-drop, take-all, take-length, drop-length}
-use borrow.Author.Tests.{leb-true, leb-false, eq-eqb, ne-eqb}
+use lib.ListN.{length, take, drop, set, take-append-drop}
+use lib.Seq.{set-getD, drop-drop}
+use borrow.Author.Tests.{eq-eqb, ne-eqb}
 use borrow.Rule.Slice.PartMut.{putMid}
 use Rattle.answers.specs.Answers.{Reply, accepted, refused, openReply, readReply}
 use Rattle.answers.specs.Refusals.{firstRefusal, Decision}
@@ -29,7 +28,7 @@ use Rattle.command.specs.declared.Command.the-variants.{Init, Add, End, Tick, F
 use denote.Enum.Declared.{tagOf}
 use types.Run.{OneOf, miss}
 use Rattle.command.proofs.Command.{the-type}
-use Rattle.command.specs.declared.Part.{Part}
+use Rattle.fields.specs.declared.Part.{Part}
 use Rattle.answers.specs.declared.OrderAnswer.{OrderAnswer}
 use Rattle.answers.specs.declared.OrderAnswer.the-variants.{Order, NoOrder}
 use Rattle.server.specs.Calls.{coordinatorDoes, partitionDoes, withCoordinator, readCall}
@@ -38,33 +37,6 @@ use Rattle.session.specs.Memory.{Memory, memory, opened, partitionAt, sh
 use Rattle.session.specs.Commands.{Outcome, called, stays, andThen, delivers, payloadsOf, carried, nextEpoch, restarts, performedOnLog, performed, Performs}
 use Rattle.session.specs.declared.Performed.{Performed}
 use Rattle.session.specs.declared.Session.{Session}
-
--- ---- a part of a line
-
-take-most : (k : ℕ) (l : List ℕ) → take (min k (length l)) l ≡ take k l
-take-most k l = go (leb k (length l)) refl
-  where
-    go : (b : Bool) → leb k (length l) ≡ b → take (min k (length l)) l ≡ take k l
-    go true h = let m : min k (length l) ≡ k = omega (arith, leb-true k (length l) h) in rw m
-    go false h =
-        let m : min k (length l) ≡ length l = omega (arith, leb-false k (length l) h) in
-        rw (m, take-length, take-all k l (omega (arith, leb-false k (length l) h)))
-
-drop-most : (k : ℕ) (l : List ℕ) → drop (min k (length l)) l ≡ drop k l
-drop-most k l = go (leb k (length l)) refl
-  where
-    go : (b : Bool) → leb k (length l) ≡ b → drop (min k (length l)) l ≡ drop k l
-    go true h = let m : min k (length l) ≡ k = omega (arith, leb-true k (length l) h) in rw m
-    go false h =
-        let m : min k (length l) ≡ length l = omega (arith, leb-false k (length l) h) in
-        rw (m, drop-length, drop-of-length-le l {i = k} (omega (arith, leb-false k (length l) h)))
-
--- both ends are kept within the line
-pub clamped : (line : List ℕ) (from len start more : ℕ) → start ≡ min from (length line) → more ≡ min len (length line - start)
-    → take (start + more - start) (drop start line) ≡ take len (drop from line)
-clamped line from len start more s m =
-    let k : start + more - start ≡ min len (length (drop start line)) = simp length-drop (omega arith) in
-    rw (k, take-most len (drop start line), s, drop-most from line)
 
 -- ---- the words of a partition
 

@@ -43,7 +43,8 @@ use Rattle.command.specs.declared.Command.{Command}
 use Rattle.command.specs.declared.Command.the-variants.{Init, Add, End, Tick, Flush, Put, Carry, Read, Cut, Unknown}
 use Rattle.session.specs.Limits.{firstPid, lastPid, firstEpoch}
 use Rattle.session.specs.Memory.{Memory, indexOf, serverAt, withServer}
-use Rattle.session.specs.Commands.{Outcome, called, stays, answered, acknowledges, carried, payloadsOf, reading, reads, nextEpoch, restarts, cuts, bytesOf, performed}
+use Rattle.fields.specs.Fields.{bytesOf}
+use Rattle.session.specs.Commands.{Outcome, called, stays, answered, acknowledges, carried, payloadsOf, reading, reads, nextEpoch, restarts, cuts, performed}
 use Rattle.session.specs.Refusals.{carryRefusals, commandRefusals, delivered, keptBy, CommandsRefused}
 use Rattle.session.proofs.CommandSteps.{as-it-was}
 
@@ -238,12 +239,12 @@ produce-empty (ProduceRefused number) h = refl
 
 numbered : (command : Command) (line : List ℕ) (m : Memory) → among (performed command line m .reply .number) (0 ∷ commandRefusals command line m) ≡ true
 unfolding performed
-numbered (Init name timeout time) line m = called-numbered (call (initCall (bytesOf name line) timeout time)) 0 m
-numbered (Add name pid epoch set time) line m = called-numbered (call (addCall (bytesOf name line) pid epoch set time)) 0 m
-numbered (End name pid epoch verdict time) line m = called-numbered (call (endCall (bytesOf name line) pid epoch verdict time)) 0 m
+numbered (Init name timeout time) line m = called-numbered (call (initCall (bytesOf line name) timeout time)) 0 m
+numbered (Add name pid epoch set time) line m = called-numbered (call (addCall (bytesOf line name) pid epoch set time)) 0 m
+numbered (End name pid epoch verdict time) line m = called-numbered (call (endCall (bytesOf line name) pid epoch verdict time)) 0 m
 numbered (Tick time) line m = called-numbered (call (tickCall time)) 0 m
 numbered Flush line m = called-numbered (call (flushCall (logEnd (m .session .coordinator)))) 0 m
-numbered (Put name pid epoch position sequence payload) line m = called-numbered (produceCall (bytesOf name line) pid epoch position sequence payload) (indexOf position) m
+numbered (Put name pid epoch position sequence payload) line m = called-numbered (produceCall (bytesOf line name) pid epoch position sequence payload) (indexOf position) m
 numbered (Carry up) line m = carry-numbered (order (m .session .coordinator) up) m
 numbered (Read position) line m = read-numbered position m
 numbered (Cut kept) line m = cut-numbered kept m
@@ -251,13 +252,13 @@ numbered Unknown line m = unfold among in refl
 
 unchanged : (command : Command) (line : List ℕ) (m : Memory) → (performed command line m .reply .number ≡ 0 → ⊥) → performed command line m .memory ≡ keptBy command m
 unfolding performed
-unchanged (Init name timeout time) line m h = called-unchanged (call (initCall (bytesOf name line) timeout time)) 0 m h
-unchanged (Add name pid epoch set time) line m h = called-unchanged (call (addCall (bytesOf name line) pid epoch set time)) 0 m h
-unchanged (End name pid epoch verdict time) line m h = called-unchanged (call (endCall (bytesOf name line) pid epoch verdict time)) 0 m h
+unchanged (Init name timeout time) line m h = called-unchanged (call (initCall (bytesOf line name) timeout time)) 0 m h
+unchanged (Add name pid epoch set time) line m h = called-unchanged (call (addCall (bytesOf line name) pid epoch set time)) 0 m h
+unchanged (End name pid epoch verdict time) line m h = called-unchanged (call (endCall (bytesOf line name) pid epoch verdict time)) 0 m h
 unchanged (Tick time) line m h = called-unchanged (call (tickCall time)) 0 m h
 unchanged Flush line m h = called-unchanged (call (flushCall (logEnd (m .session .coordinator)))) 0 m h
 unchanged (Put name pid epoch position sequence payload) line m h =
-    called-unchanged (produceCall (bytesOf name line) pid epoch position sequence payload) (indexOf position) m h
+    called-unchanged (produceCall (bytesOf line name) pid epoch position sequence payload) (indexOf position) m h
 unchanged (Carry up) line m h = carry-unchanged (order (m .session .coordinator) up) m h
 unchanged (Read position) line m h = read-unchanged position m h
 unchanged (Cut kept) line m h = cut-unchanged kept m h
@@ -265,14 +266,14 @@ unchanged Unknown line m h = refl
 
 no-results : (command : Command) (line : List ℕ) (m : Memory) → (performed command line m .reply .number ≡ 0 → ⊥) → performed command line m .reply .results ≡ []
 unfolding performed
-no-results (Init name timeout time) line m h = init-empty (init (m .session .coordinator) (length (m .log)) (bytesOf name line) timeout time .answer) h
-no-results (Add name pid epoch set time) line m h = reply-empty (add (m .session .coordinator) (length (m .log)) (bytesOf name line) pid epoch set time .answer) h
-no-results (End name pid epoch verdict time) line m h = reply-empty (end (m .session .coordinator) (length (m .log)) (bytesOf name line) pid epoch verdict time .answer) h
+no-results (Init name timeout time) line m h = init-empty (init (m .session .coordinator) (length (m .log)) (bytesOf line name) timeout time .answer) h
+no-results (Add name pid epoch set time) line m h = reply-empty (add (m .session .coordinator) (length (m .log)) (bytesOf line name) pid epoch set time .answer) h
+no-results (End name pid epoch verdict time) line m h = reply-empty (end (m .session .coordinator) (length (m .log)) (bytesOf line name) pid epoch verdict time .answer) h
 no-results (Tick time) line m h = tick-empty (tick (m .session .coordinator) (length (m .log)) time .answer) h
 no-results Flush line m h = reply-empty (flush (m .session .coordinator) (logEnd (m .session .coordinator)) .answer) h
 no-results (Put name pid epoch position sequence payload) line m h =
     let s = serverAt (indexOf position) m in
-    produce-empty (produce (s .coordinator) (s .partition) (length (s .words)) (bytesOf name line) pid epoch position sequence payload .answer) h
+    produce-empty (produce (s .coordinator) (s .partition) (length (s .words)) (bytesOf line name) pid epoch position sequence payload .answer) h
 no-results (Carry up) line m h = carry-empty (order (m .session .coordinator) up) m h
 no-results (Read position) line m h = read-empty position m h
 no-results (Cut kept) line m h = cut-empty kept m

@@ -5,7 +5,6 @@ use mathlib.Core.Bool.{cond}
 use mathlib.Core.List.{List, [], _∷_}
 use lib.Dec.{eqb, ltb}
 use lib.IntN.{ℤ, pos, negsuc}
-use lib.ListN.{take, drop}
 use Rattle.bits.specs.Bits.{member}
 use Rattle.answers.specs.Numbers.{invalidSet, invalidNumber}
 use Rattle.answers.specs.Answers.{Reply, accepted, refused}
@@ -21,7 +20,7 @@ use Rattle.server.specs.Calls.{Call, openLog, call, produceCall, markerCall, re
 use Rattle.server.specs.Lines.{catalogueText}
 use Rattle.command.specs.declared.Command.{Command}
 use Rattle.command.specs.declared.Command.the-variants.{Init, Add, End, Tick, Flush, Put, Carry, Read, Cut, Unknown}
-use Rattle.command.specs.declared.Part.{Part}
+use Rattle.fields.specs.Fields.{bytesOf}
 use Rattle.session.specs.Limits.{firstPid, lastPid, lastEpoch}
 use Rattle.session.specs.Memory.{Memory, memory, indexOf, serverAt, withServer}
 use Rattle.session.specs.Replies.{firstPayloads, replyOf}
@@ -56,10 +55,6 @@ abbrev pub andThen : Outcome → (Memory → Outcome) → Outcome
 andThen o next = cond (eqb (o .reply .number) 0) (next (o .memory)) o
 
 -- ---- the commands
-
--- the bytes of a part of the line
-abbrev pub bytesOf : Part → List ℕ → List ℕ
-bytesOf part line = take (part .len) (drop (part .from) line)
 
 -- "once that answered done, to call Ack"; "carry: place, position, verdict"
 abbrev pub acknowledges : ℕ → ℤ → ℤ → ℕ → ℕ → Memory → Outcome
@@ -113,13 +108,13 @@ cuts kept m =
 
 -- a command of a line; "`flush` takes all"
 unfoldable pub performed : Command → List ℕ → Memory → Outcome
-performed (Init name timeout time) line m = called (call (initCall (bytesOf name line) timeout time)) 0 m
-performed (Add name pid epoch set time) line m = called (call (addCall (bytesOf name line) pid epoch set time)) 0 m
-performed (End name pid epoch verdict time) line m = called (call (endCall (bytesOf name line) pid epoch verdict time)) 0 m
+performed (Init name timeout time) line m = called (call (initCall (bytesOf line name) timeout time)) 0 m
+performed (Add name pid epoch set time) line m = called (call (addCall (bytesOf line name) pid epoch set time)) 0 m
+performed (End name pid epoch verdict time) line m = called (call (endCall (bytesOf line name) pid epoch verdict time)) 0 m
 performed (Tick time) line m = called (call (tickCall time)) 0 m
 performed Flush line m = called (call (flushCall (logEnd (m .session .coordinator)))) 0 m
 performed (Put name pid epoch position sequence payload) line m =
-    called (produceCall (bytesOf name line) pid epoch position sequence payload) (indexOf position) m
+    called (produceCall (bytesOf line name) pid epoch position sequence payload) (indexOf position) m
 performed (Carry up) line m = carried (order (m .session .coordinator) up) m
 performed (Read position) line m = reads position m
 performed (Cut kept) line m = cuts kept m

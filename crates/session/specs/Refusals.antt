@@ -17,7 +17,8 @@ use Rattle.command.specs.declared.Command.{Command}
 use Rattle.command.specs.declared.Command.the-variants.{Init, Add, End, Tick, Flush, Put, Carry, Read, Cut, Unknown}
 use Rattle.session.specs.Limits.{firstPid, lastPid, firstEpoch}
 use Rattle.session.specs.Memory.{Memory, indexOf}
-use Rattle.session.specs.Commands.{called, bytesOf, performed}
+use Rattle.fields.specs.Fields.{bytesOf}
+use Rattle.session.specs.Commands.{called, performed}
 
 -- the refusals of Marker and of Ack
 abbrev pub carryRefusals : OrderAnswer → List ℕ
@@ -26,12 +27,12 @@ carryRefusals (Order place pid epoch verdict position coordinator) = refusalsOf 
 
 -- the numbers with which a command can be refused
 abbrev pub commandRefusals : Command → List ℕ → Memory → List ℕ
-commandRefusals (Init name timeout time) line m = refusalsOf (call (initCall (bytesOf name line) timeout time))
-commandRefusals (Add name pid epoch set time) line m = refusalsOf (call (addCall (bytesOf name line) pid epoch set time))
-commandRefusals (End name pid epoch verdict time) line m = refusalsOf (call (endCall (bytesOf name line) pid epoch verdict time))
+commandRefusals (Init name timeout time) line m = refusalsOf (call (initCall (bytesOf line name) timeout time))
+commandRefusals (Add name pid epoch set time) line m = refusalsOf (call (addCall (bytesOf line name) pid epoch set time))
+commandRefusals (End name pid epoch verdict time) line m = refusalsOf (call (endCall (bytesOf line name) pid epoch verdict time))
 commandRefusals (Tick time) line m = refusalsOf (call (tickCall time))
 commandRefusals Flush line m = refusalsOf (call (flushCall (logEnd (m .session .coordinator))))
-commandRefusals (Put name pid epoch position sequence payload) line m = refusalsOf (produceCall (bytesOf name line) pid epoch position sequence payload)
+commandRefusals (Put name pid epoch position sequence payload) line m = refusalsOf (produceCall (bytesOf line name) pid epoch position sequence payload)
 commandRefusals (Carry up) line m = carryRefusals (order (m .session .coordinator) up)
 commandRefusals (Read position) line m = 3 ∷ refusalsOf (readCall 0)
 commandRefusals (Cut kept) line m = 7 ∷ refusalsOf (openLog catalogueText 0 firstEpoch firstPid lastPid)

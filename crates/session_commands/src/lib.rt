@@ -1,15 +1,12 @@
-// The commands of a session: `put`, `carry` and `read` at its partitions, and all of them as one function.
-use answers::OrderAnswer;
+// The commands of a session: `put` and `read` at its partitions, and all commands as one function.
 use command::Command;
 use session::Performed;
-use session::Results;
 use session::Session;
 ghost use mathlib.Core.List.{List};
 ghost use Prim.Native.Nat.{ℕ};
-ghost use Rattle.coordinator.specs.Order.{order};
 ghost use Rattle.server.specs.Calls.{produceCall};
 ghost use Rattle.session.specs.Memory.{memory, indexOf};
-ghost use Rattle.session.specs.Commands.{called, carried, delivers, acknowledges, reads, performed, Performs, PerformsOnLog, PerformsOnWords, PerformsOnBoth};
+ghost use Rattle.session.specs.Commands.{called, reads, performed, Performs, PerformsOnWords};
 
 // `put NAME PID EPOCH POSITION SEQUENCE PAYLOAD`, at the partition of the position.
 fn put(
@@ -44,102 +41,6 @@ fn put(
     Performed {
         response: session::produced(answer),
         session: session::with_partition(s, index, state),
-    }
-}
-
-// ---- Carrying an order.
-
-// The Ack of an order that its partition answered done.
-fn acknowledge(
-    s: Session,
-    log: &mut [u8],
-    place: usize,
-    pid: i64,
-    epoch: i16,
-    verdict: u64,
-    position: usize,
-) -> Performed
-    ensures { λ r. ⌜ PerformsOnLog (acknowledges place pid epoch verdict position) s (now (log .entry)) r (now (log .exit)) ⌝ }
-{
-    let c = s.coordinator;
-    let made = completion::ack(c, log, place, pid, epoch, position);
-    let answer = made.answer;
-    let state = made.state;
-    let results = Results::Carried {
-        place,
-        position,
-        verdict,
-    };
-    Performed {
-        response: session::answering(session::done(answer).number, results),
-        session: session::with_coordinator(s, state),
-    }
-}
-
-// An order is given to its partition: Marker, then Ack.
-fn deliver(
-    s: Session,
-    log: &mut [u8],
-    words: &mut [u64],
-    place: usize,
-    pid: i64,
-    epoch: i16,
-    verdict: u64,
-    position: usize,
-    coordinator: i32,
-) -> Performed
-    ensures { λ r. ⌜ PerformsOnBoth (delivers place pid epoch verdict position coordinator) s (now (log .entry)) (now (words .entry)) r (now (log .exit)) (now (words .exit)) ⌝ }
-{
-    let index = session::index_of(position);
-    let start = session::words_start(words.len(), index);
-    let past = start + words.len() / session::PARTITIONS;
-    let made = partition::marker(
-        session::partition_at(s, index),
-        &mut words[start..past],
-        place,
-        pid,
-        epoch,
-        verdict,
-        coordinator,
-    );
-    let answer = made.answer;
-    let state = made.state;
-    let response = session::done(answer);
-    let session = session::with_partition(s, index, state);
-    if response.number != 0 {
-        return Performed { response, session };
-    }
-    acknowledge(session, log, place, pid, epoch, verdict, position)
-}
-
-// `carry UP`.
-fn carry(s: Session, log: &mut [u8], words: &mut [u64], up: u64) -> Performed
-    ensures { λ r. ⌜ PerformsOnBoth (carried (order (s .coordinator) up)) s (now (log .entry)) (now (words .entry)) r (now (log .exit)) (now (words .exit)) ⌝ }
-{
-    let c = s.coordinator;
-    match completion::order(c, up) {
-        OrderAnswer::Order {
-            place,
-            pid,
-            epoch,
-            verdict,
-            position,
-            coordinator,
-        } => deliver(
-            s,
-            log,
-            words,
-            place,
-            pid,
-            epoch,
-            verdict,
-            position,
-            coordinator,
-        ),
-        OrderAnswer::NoOrder => Performed {
-            response: session::accepted(Results::Nothing),
-            session: s,
-        },
     }
 }
 
@@ -187,11 +88,11 @@ pub fn perform(
             sequence,
             payload,
         } => {
-            let name = session::bytes_of(line, name);
+            let name = fields::bytes_of(line, name);
             let position = position as usize;
             put(s, words, name, pid, epoch, position, sequence, payload)
         }
-        Command::Carry { up } => carry(s, log, words, up),
+        Command::Carry { up } => carry_command::carry(s, log, words, up),
         Command::Read { position } => read(s, words, payloads, position as usize),
         _ => log_commands::on_log(s, command, line, log),
     }

@@ -37,7 +37,8 @@ use Rattle.command.specs.declared.Command.{Command}
 use Rattle.command.specs.declared.Command.the-variants.{Init, Add, End, Tick, Flush, Put, Carry, Read, Cut, Unknown}
 use Rattle.session.specs.Limits.{firstPid, lastPid, firstEpoch}
 use Rattle.session.specs.Memory.{Memory, opened, indexOf, serverAt}
-use Rattle.session.specs.Commands.{bytesOf, stays, reading, cuts, performed}
+use Rattle.fields.specs.Fields.{bytesOf}
+use Rattle.session.specs.Commands.{stays, reading, cuts, performed}
 use Rattle.session.proofs.Parts.{length-share}
 use Rattle.session_runs.specs.Items.{firstOpening, firstMemory, CommandLine, commandTyped, itemsOf, afterCommands, itemsOfAll}
 use Rattle.session_runs.specs.SessionRuns.{leaderOf, EverySessionRuns}
@@ -87,12 +88,12 @@ module _ (m : Memory) (leaders : List Leader) (k : Carrying) (h : History) (held
   world-command : Invariant (world m leaders k h) → (command : Command) (line : List ℕ) → commandTyped command ≡ true
       → Shown (run (itemsOf command line (world m leaders k h) m) (world m leaders k h)) (performed command line m .memory)
   unfolding performed
-  world-command inv (Init name timeout time) line t = coordinator-called m leaders k h held (initCall (bytesOf name line) timeout time) t refl
-  world-command inv (Add name pid epoch set time) line t = coordinator-called m leaders k h held (addCall (bytesOf name line) pid epoch set time) t refl
-  world-command inv (End name pid epoch verdict time) line t = coordinator-called m leaders k h held (endCall (bytesOf name line) pid epoch verdict time) t refl
+  world-command inv (Init name timeout time) line t = coordinator-called m leaders k h held (initCall (bytesOf line name) timeout time) t refl
+  world-command inv (Add name pid epoch set time) line t = coordinator-called m leaders k h held (addCall (bytesOf line name) pid epoch set time) t refl
+  world-command inv (End name pid epoch verdict time) line t = coordinator-called m leaders k h held (endCall (bytesOf line name) pid epoch verdict time) t refl
   world-command inv (Tick time) line t = coordinator-called m leaders k h held (tickCall time) t refl
   world-command inv Flush line t = coordinator-called m leaders k h held (flushCall (logEnd (m .session .coordinator))) refl refl
-  world-command inv (Put name pid epoch position sequence payload) line t = produce-called m leaders k h held inv (bytesOf name line) pid epoch position sequence payload t
+  world-command inv (Put name pid epoch position sequence payload) line t = produce-called m leaders k h held inv (bytesOf line name) pid epoch position sequence payload t
   world-command inv (Carry up) line t = carry-shown m leaders k h held inv up t (order (m .session .coordinator) up) refl
   world-command inv (Read position) line t = read-shown position (member (m .session .coordinator .catalogue .all) position)
   world-command inv (Cut kept) line t = cut-shown m leaders k h held kept (eqb (cuts kept m .reply .number) 0) refl

@@ -16,8 +16,8 @@ use Rattle.search.specs.Search.{Each}
 use Rattle.coordinator.specs.Calls.{isWord}
 use Rattle.command.specs.declared.Command.{Command}
 use Rattle.command.specs.declared.Command.the-variants.{Init, Add, End, Tick, Flush, Put, Carry, Read, Cut, Unknown}
-use Rattle.command.specs.Fields.{count, partAt, field}
-use Rattle.command.specs.Numbers.{integerOf, within, signed}
+use Rattle.fields.specs.Fields.{count, partAt, field}
+use Rattle.fields.specs.Numbers.{integerOf, within, signed}
 use Rattle.command.specs.Command.{given, int16, int32, int64, uint64, ofFields, changeOf, initOf, addOf, endOf, tickOf, flushOf, putOf, carryOf, readOf, cutOf, commandsOf, commandAt, commandOf}
 use Rattle.command.specs.Words.{rowOf}
 use Rattle.session_runs.specs.Items.{CommandLine, commandTyped}

@@ -15,7 +15,8 @@ use Rattle.command.specs.declared.Command.{Command}
 use Rattle.command.specs.declared.Command.the-variants.{Init, Add, End, Tick, Flush, Put, Carry, Read, Cut, Unknown}
 use Rattle.session.specs.Limits.{firstPid, lastPid, firstEpoch}
 use Rattle.session.specs.Memory.{Memory, memory, opened, wordsAt}
-use Rattle.session.specs.Commands.{bytesOf, nextEpoch, cuts, performed}
+use Rattle.fields.specs.Fields.{bytesOf}
+use Rattle.session.specs.Commands.{nextEpoch, cuts, performed}
 
 -- ---- the start
 
@@ -59,12 +60,12 @@ commandTyped Unknown = true
 -- what a command is in a run: a call; for `carry` an order that is given, delivered and acknowledged; for an accepted `cut` a cut and an opening.
 -- A `read` outside the catalogue and a `cut` that is refused make no call.
 abbrev pub itemsOf : Command → List ℕ → World → Memory → List Item
-itemsOf (Init name timeout time) line w m = call own (initCall (bytesOf name line) timeout time) ∷ []
-itemsOf (Add name pid epoch set time) line w m = call own (addCall (bytesOf name line) pid epoch set time) ∷ []
-itemsOf (End name pid epoch verdict time) line w m = call own (endCall (bytesOf name line) pid epoch verdict time) ∷ []
+itemsOf (Init name timeout time) line w m = call own (initCall (bytesOf line name) timeout time) ∷ []
+itemsOf (Add name pid epoch set time) line w m = call own (addCall (bytesOf line name) pid epoch set time) ∷ []
+itemsOf (End name pid epoch verdict time) line w m = call own (endCall (bytesOf line name) pid epoch verdict time) ∷ []
 itemsOf (Tick time) line w m = call own (tickCall time) ∷ []
 itemsOf Flush line w m = call own (flushCall (logEnd (m .session .coordinator))) ∷ []
-itemsOf (Put name pid epoch position sequence payload) line w m = callProduce own 0 (bytesOf name line) pid epoch position sequence payload ∷ []
+itemsOf (Put name pid epoch position sequence payload) line w m = callProduce own 0 (bytesOf line name) pid epoch position sequence payload ∷ []
 itemsOf (Carry up) line w m = callOrder up ∷ deliver own (length (w .history)) ∷ acknowledge own (length (w .history)) ∷ []
 itemsOf (Read position) line w m = cond (member (m .session .coordinator .catalogue .all) position) (callRead own position 0 (m .payloads) ∷ []) []
 itemsOf (Cut kept) line w m =

@@ -7,7 +7,7 @@ use Rattle.coordinator.specs.Coordinator.{logEnd}
 use Rattle.server.specs.Lines.{rig7}
 use Rattle.command.specs.declared.Command.{Command}
 use Rattle.command.specs.declared.Command.the-variants.{Init, Add, End, Flush, Put, Carry, Read, Cut}
-use Rattle.command.specs.declared.Part.{Part}
+use Rattle.fields.specs.declared.Part.{Part}
 use Rattle.session.specs.Memory.{Memory}
 use Rattle.session.specs.Commands.{performed}
 use Rattle.session_runs.specs.Items.{firstMemory, CommandLine}

@@ -1,9 +1,8 @@
 -- `command::flush_of` meets its contract.
 use Prim.Native.Nat.{ℕ}
-use mathlib.Core.Path.{_≡_}
 use mathlib.Core.List.{List}
 use native.Mathlib.Omega.{arith}
-use Rattle.command.proofs.Splitting.{counts, counts-not}
+use Rattle.fields.proofs.Held.{counts, counts-not}
 use Rattle.command.proofs.Commands.{flush-count, flush-is}
 use Rattle.command.proofs.flush_of.Statement.{statement}
 use Rattle.command.proofs.flush_of.Tie as tie

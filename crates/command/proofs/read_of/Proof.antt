@@ -2,7 +2,7 @@
 use borrow.Author.Needs.{needs}
 use Rattle.command.specs.Command.{readOf}
 use Rattle.command.specs.declared.Command.the-variants.{Read}
-use Rattle.command.proofs.Commands.{number-made, number-missing}
+use Rattle.command.proofs.Commands.{number-made}
 use Rattle.command.proofs.read_of.Statement.{statement}
 use Rattle.command.proofs.read_of.Tie as tie
 
@@ -21,7 +21,7 @@ returns c = let r = c .before .before .before in number-made Read (r .before .be
 
 returns-2 : tie.Need-returns-2
 unfolding readOf
-returns-2 c = let r = c .before .before in number-missing Read (r .before .before .args .line .now) (r .one-number .ensures) (c .enum-told .given .1)
+returns-2 c = let r = c .before .before in number-made Read (r .before .before .args .line .now) (r .one-number .ensures) (c .enum-told .given .1)
 
 pub read-of-spec : {M : Type 1} → statement M
 read-of-spec =

@@ -1,14 +1,14 @@
 -- `command::tick_of` meets its contract.
 use borrow.Author.Needs.{needs}
 use Prim.Native.Nat.{ℕ}
-use mathlib.Core.Path.{_≡_}
+use mathlib.Core.Path.{_≡_, refl}
 use mathlib.Core.List.{List}
 use native.Mathlib.Omega.{arith}
 use mir.Syntax.{w64}
-use Rattle.command.specs.Fields.{count, field}
-use Rattle.command.specs.Numbers.{signed}
-use Rattle.command.proofs.Splitting.{counts, counts-not}
-use Rattle.command.proofs.Commands.{some-64, none-64, tick-count, tick-none, tick-is}
+use Rattle.fields.specs.Fields.{count}
+use Rattle.fields.specs.Numbers.{signed, value64}
+use Rattle.fields.proofs.Held.{counts, counts-not, field-holds, signed-holds}
+use Rattle.command.proofs.Commands.{tick-count, tick-none, tick-is}
 use Rattle.command.proofs.tick_of.Statement.{statement}
 use Rattle.command.proofs.tick_of.Tie as tie
 
@@ -37,13 +37,13 @@ returns-2 : tie.Need-returns-2
 returns-2 c =
     let r = c .before .before .before in
     let s = start (r .before) in
-    tick-is (line s) (two (r .before)) (some-64 (signed w64 (field (line s) 1)) (r .signed-64 .ensures) (c .before .time .given .1) (search needs))
+    tick-is (line s) (two (r .before)) (signed-holds (line s) (s .args .fields) (s .pre) 1 (omega arith) w64 value64 (r .signed-64 .ensures) (c .before .time .given .1) refl (search needs))
 
 returns-3 : tie.Need-returns-3
 returns-3 c =
     let r = c .before .before in
     let s = start (r .before) in
-    tick-none (line s) (two (r .before)) (none-64 (signed w64 (field (line s) 1)) (r .signed-64 .ensures) (c .enum-told .given .1))
+    tick-none (line s) (two (r .before)) (field-holds (line s) (s .args .fields) (s .pre) 1 (omega arith) value64 (signed w64) (r .signed-64 .ensures) (c .enum-told .given .1))
 
 pub tick-of-spec : {M : Type 1} → statement M
 tick-of-spec =
