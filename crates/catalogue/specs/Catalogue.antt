@@ -15,6 +15,10 @@ use Rattle.catalogue.specs.declared.Line.the-variants.{Topic, Bad}
 
 -- ---- what a catalogue holds
 
+-- the catalogue of these names and positions
+abbrev pub catalogueOf : List ℕ → ℕ → Catalogue
+catalogueOf names all = record { names = names; all = all }
+
 -- the sixteen bytes of topic t's name, padded with zeros
 abbrev pub nameField : Catalogue → ℕ → List ℕ
 nameField c t = take topicNameMax (drop (topicNameMax * t) (c .names))
