@@ -153,6 +153,6 @@ module _ (c : Catalogue) (h : History) (t : HistoryInvariant c h) (s : Coordinat
 
       waiting : difference (old .joined) (insert (old .acknowledged) position) ≡ 0 → ⊥
       waiting z =
-          let one = count-left 64 (old .joined) (old .acknowledged) position small-joined (a .small place) below (member-true (old .joined) position joins) (member-false (old .acknowledged) position new) in
+          let one = count-left (old .joined) (old .acknowledged) position small-joined (a .small place) below (member-true (old .joined) position joins) (member-false (old .acknowledged) position new) in
           let zero-left : count (difference (old .joined) (insert (old .acknowledged) position)) ≡ 0 = ap count z ∙ count-none in
           eqb-false (count (outstanding old)) 1 more-left (omega arith)

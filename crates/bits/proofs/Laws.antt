@@ -1,6 +1,6 @@
 -- Laws of a number as a set of positions, over all numbers and positions.
 use mathlib.Core.Path.{_≡_, refl, sym, ap, ap₂, subst, _∙_}
-use mathlib.Core.Bool.{Bool, true, false, true≢false}
+use mathlib.Core.Bool.{Bool, true, false, cond, true≢false}
 use mathlib.Core.List.{[], _∷_, _++_, append-nil}
 use Prim.Native.Nat.{ℕ, zero, suc, _+_, _-_, _*_, _/_, _%_, _^_, _≤_, _<_, min, max}
 use native.Mathlib.Nat.{div-div-eq-div-mul, div-eq-of-lt, div-one, pow-succ', two-pow-succ, min-le-right, min-eq-left, max-eq-right, max-zero, min-zero, zero-mul, sub-zero, lt-of-le-of-lt, lt-of-lt-of-le, mod-lt, add-zero, one-mul, add-mul}
@@ -12,7 +12,7 @@ use lib.Dec.{eqb, ltb}
 use lib.Count.{ones, ones-step, ones-cat, ones-le, trailingZeros, under}
 use lib.ListN.{length, length-append}
 use lib.Pow.{pow-pos, pow-lt, pow-mono, ones-sub-lt, shr-shr, shr-lt, split}
-use borrow.Author.Tests.{ltb-true, ltb-false, eqb-true, eqb-false, eq-eqb, ne-eqb}
+use borrow.Author.Tests.{ltb-true, ltb-false, lt-ltb, le-ltb, eqb-true, eqb-false, eq-eqb, ne-eqb}
 use Rattle.bits.specs.Bits.{bit, Member, member, insert, union, difference, differenceOf, subset, lowest, count, times, members}
 
 -- ---- a digit at a time
@@ -201,18 +201,32 @@ union-more a b e q = true≢false (sym (union-right a b) ∙ ap (subset b) q ∙
 
 -- ---- one member more
 
-pub insert-same : (x p : ℕ) → bit (insert x p) p ≡ 1
-insert-same x p = bit-or x (2 ^ p) p ∙ rw bit-same (max-eq-right (omega (arith, bit-bound x p)))
+-- a position below 64 is taken in, any other changes nothing
+pub insert-in : (x p : ℕ) → p < 64 → insert x p ≡ bitOr x (2 ^ p)
+insert-in x p l = rw (lt-ltb p 64 l)
+
+pub insert-past : (x p : ℕ) → 64 ≤ p → insert x p ≡ x
+insert-past x p l = rw (le-ltb p 64 l)
+
+insert-cases : (P : ℕ → Type 0) (x p : ℕ) → P (bitOr x (2 ^ p)) → P x → P (insert x p)
+insert-cases P x p f g = go (ltb p 64)
+  where
+    go : (b : Bool) → P (cond b (bitOr x (2 ^ p)) x)
+    go true = f
+    go false = g
+
+pub insert-same : (x p : ℕ) → p < 64 → bit (insert x p) p ≡ 1
+insert-same x p l = rw (insert-in x p l) (bit-or x (2 ^ p) p ∙ rw bit-same (max-eq-right (omega (arith, bit-bound x p))))
 
 pub insert-other : (x p q : ℕ) → (q ≡ p → ⊥) → bit (insert x p) q ≡ bit x q
-insert-other x p q n = bit-or x (2 ^ p) q ∙ rw (bit-other p q n) (max-zero (bit x q))
+insert-other x p q n = insert-cases (λ (y : ℕ). bit y q ≡ bit x q) x p (bit-or x (2 ^ p) q ∙ rw (bit-other p q n) (max-zero (bit x q))) refl
 
 pub insert-below : (k x p : ℕ) → x < 2 ^ k → p < k → insert x p < 2 ^ k
-insert-below k x p h l = or-lt k x (2 ^ p) h (pow-lt l)
+insert-below k x p h l = insert-cases (λ (y : ℕ). y < 2 ^ k) x p (or-lt k x (2 ^ p) h (pow-lt l)) h
 
 -- a member that is new is added
-pub insert-new : (x p : ℕ) → bit x p ≡ 0 → insert x p ≡ x + 2 ^ p
-insert-new x p e = or-disjoint x (2 ^ p) apart
+pub insert-new : (x p : ℕ) → p < 64 → bit x p ≡ 0 → insert x p ≡ x + 2 ^ p
+insert-new x p l e = insert-in x p l ∙ or-disjoint x (2 ^ p) apart
   where
     apart : bitAnd x (2 ^ p) ≡ 0
     apart =
@@ -267,13 +281,13 @@ count-parts x p = ap ones (sym (split x p)) ∙ ones-cat p (x / 2 ^ p) (x % 2 ^ 
 sum-parts : (x p : ℕ) → x + 2 ^ p ≡ (x / 2 ^ p + 1) * 2 ^ p + x % 2 ^ p
 sum-parts x p = rw (add-mul (x / 2 ^ p) 1 (2 ^ p), one-mul) (omega (arith, split x p))
 
-pub count-insert : (x p : ℕ) → bit x p ≡ 0 → count (insert x p) ≡ count x + 1
-count-insert x p e =
+pub count-insert : (x p : ℕ) → p < 64 → bit x p ≡ 0 → count (insert x p) ≡ count x + 1
+count-insert x p l e =
     let h = x / 2 ^ p in
     let q : (h + 1) / 2 ≡ h / 2 = omega arith in
     let s : ones (h + 1) ≡ ones h + 1 = rw (ones-step (h + 1), ones-step h, q) (omega arith) in
     let a : ones (x + 2 ^ p) ≡ ones (h + 1) + ones (x % 2 ^ p) = ap ones (sum-parts x p) ∙ ones-cat p (h + 1) (x % 2 ^ p) (mod-lt x (pow-pos p)) in
-    ap ones (insert-new x p e) ∙ omega (arith, count-parts x p)
+    ap ones (insert-new x p l e) ∙ omega (arith, count-parts x p)
 
 -- ---- the members of a that are not members of b
 
@@ -297,35 +311,35 @@ module _ (k a b : ℕ) (ha : a < 2 ^ k) (hb : b < 2 ^ k) (p : ℕ) where
   left-is e f = member-is (differenceOf k a b) p (omega (arith, bit-left, member-true a p e, member-false b p f))
 
 -- one that is left with p taken into b was left before, and is not p
-pub left-without : (k a b p q : ℕ) → a < 2 ^ k → b < 2 ^ k → p < k → member (differenceOf k a (insert b p)) q ≡ true
-    → (member (differenceOf k a b) q ≡ true) × (q ≡ p → ⊥)
-left-without k a b p q ha hb l e =
-    let (m, f) = left-parts k a (insert b p) ha (insert-below k b p hb l) q e in
+pub left-without : (a b p q : ℕ) → a < 2 ^ 64 → b < 2 ^ 64 → p < 64 → member (difference a (insert b p)) q ≡ true
+    → (member (difference a b) q ≡ true) × (q ≡ p → ⊥)
+left-without a b p q ha hb l e =
+    let (m, f) = left-parts 64 a (insert b p) ha (insert-below 64 b p hb l) q e in
     let z : bit (insert b p) q ≡ 0 = member-false (insert b p) q f in
-    let n : q ≡ p → ⊥ = λ i. omega (arith, insert-same b p, ap (bit (insert b p)) i) in
-    (left-is k a b ha hb q m (member-is-not b q (sym (insert-other b p q n) ∙ z)), n)
+    let n : q ≡ p → ⊥ = λ i. omega (arith, insert-same b p l, ap (bit (insert b p)) i) in
+    (left-is 64 a b ha hb q m (member-is-not b q (sym (insert-other b p q n) ∙ z)), n)
 
 -- p is a member of a and not of b: with p taken into b, the difference has one member less
-module _ (k a b p : ℕ) (ha : a < 2 ^ k) (hb : b < 2 ^ k) (l : p < k) (m : Member p a) (e : bit b p ≡ 0) where
-  gone : bit (differenceOf k a (insert b p)) p ≡ 0
-  gone = bit-difference k a (insert b p) p (insert-below k b p hb l) l ∙ rw insert-same (min-zero (bit a p))
+module _ (a b p : ℕ) (ha : a < 2 ^ 64) (hb : b < 2 ^ 64) (l : p < 64) (m : Member p a) (e : bit b p ≡ 0) where
+  gone : bit (difference a (insert b p)) p ≡ 0
+  gone = bit-difference 64 a (insert b p) p (insert-below 64 b p hb l) l ∙ rw (insert-same b p l) (min-zero (bit a p))
 
-  digit : (q : ℕ) → q < k → Dec (q ≡ p) → bit (differenceOf k a b) q ≡ bit (insert (differenceOf k a (insert b p)) p) q
+  digit : (q : ℕ) → q < 64 → Dec (q ≡ p) → bit (difference a b) q ≡ bit (insert (difference a (insert b p)) p) q
   digit q lq (yes i) =
-      let x : bit (differenceOf k a b) p ≡ 1 = bit-difference k a b p hb l ∙ rw (m, e) refl in
-      rw i (x ∙ sym (insert-same (differenceOf k a (insert b p)) p))
+      let x : bit (difference a b) p ≡ 1 = bit-difference 64 a b p hb l ∙ rw (m, e) refl in
+      rw i (x ∙ sym (insert-same (difference a (insert b p)) p l))
   digit q lq (no n) =
-      bit-difference k a b q hb lq
-      ∙ sym (insert-other (differenceOf k a (insert b p)) p q n ∙ bit-difference k a (insert b p) q (insert-below k b p hb l) lq ∙ rw (insert-other b p q n) refl)
+      bit-difference 64 a b q hb lq
+      ∙ sym (insert-other (difference a (insert b p)) p q n ∙ bit-difference 64 a (insert b p) q (insert-below 64 b p hb l) lq ∙ rw (insert-other b p q n) refl)
 
-  one-left : differenceOf k a b ≡ insert (differenceOf k a (insert b p)) p
+  one-left : difference a b ≡ insert (difference a (insert b p)) p
   one-left =
-      same-members k (differenceOf k a b) (insert (differenceOf k a (insert b p)) p) (and-lt k a (2 ^ k - 1 - b) ha (ones-sub-lt k b))
-      (insert-below k (differenceOf k a (insert b p)) p (and-lt k a (2 ^ k - 1 - insert b p) ha (ones-sub-lt k (insert b p))) l)
+      same-members 64 (difference a b) (insert (difference a (insert b p)) p) (and-lt 64 a (2 ^ 64 - 1 - b) ha (ones-sub-lt 64 b))
+      (insert-below 64 (difference a (insert b p)) p (and-lt 64 a (2 ^ 64 - 1 - insert b p) ha (ones-sub-lt 64 (insert b p))) l)
       (λ q lq. digit q lq (ℕ-discrete q p))
 
-  pub count-left : count (differenceOf k a b) ≡ count (differenceOf k a (insert b p)) + 1
-  count-left = ap ones one-left ∙ count-insert (differenceOf k a (insert b p)) p gone
+  pub count-left : count (difference a b) ≡ count (difference a (insert b p)) + 1
+  count-left = ap ones one-left ∙ count-insert (difference a (insert b p)) p l gone
 
 -- ---- the members in rising order
 
@@ -412,7 +426,7 @@ last-left a b p ha hb below joins new last x m n = go (member b x) refl
     go : (t : Bool) → member b x ≡ t → t ≡ true
     go true e = refl
     go false e =
-        let one = count-left 64 a b p ha hb below (member-true a p joins) (member-false b p new) in
+        let one = count-left a b p ha hb below (member-true a p joins) (member-false b p new) in
         let is : count (difference a b) ≡ 1 = eqb-true (count (difference a b)) 1 last in
         let small = insert-below 64 b p hb below in
         let none-left : difference a (insert b p) ≡ 0 = count-zero 64 (difference a (insert b p)) (let q = and-le-l a ((2 ^ 64 - 1) - insert b p) in omega arith) (omega arith) in

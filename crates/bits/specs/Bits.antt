@@ -1,11 +1,11 @@
 -- A number as the set of the positions of its digits that are 1. A u64 is a set of the positions 0 to 63.
 use Prim.Native.Nat.{ℕ, zero, suc, _-_, _/_, _%_, _^_}
 use mathlib.Core.Path.{_≡_}
-use mathlib.Core.Bool.{Bool}
+use mathlib.Core.Bool.{Bool, cond}
 use mathlib.Core.List.{List, [], _∷_, _++_}
 use lib.Bits.{bitAnd, bitOr}
 use lib.Count.{ones, trailingZeros}
-use lib.Dec.{eqb}
+use lib.Dec.{eqb, ltb}
 
 -- the digit of x at position p: 1 where p is a member of x, else 0
 abbrev pub bit : ℕ → ℕ → ℕ
@@ -19,9 +19,9 @@ Member p x = bit x p ≡ 1
 abbrev pub member : ℕ → ℕ → Bool
 member x p = eqb (bit x p) 1
 
--- x with p
+-- x with p; a position above 63 is in no set
 abbrev pub insert : ℕ → ℕ → ℕ
-insert x p = bitOr x (2 ^ p)
+insert x p = cond (ltb p 64) (bitOr x (2 ^ p)) x
 
 -- the positions of either
 abbrev pub union : ℕ → ℕ → ℕ

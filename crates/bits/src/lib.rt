@@ -1,6 +1,5 @@
 // Sets of positions 0 to 63, held in a u64.
 ghost use mathlib.Core.Path.{_≡_};
-ghost use Prim.Native.Nat.{_<_};
 ghost use Rattle.bits.specs.Bits.{member, insert, union, intersection, difference, subset, lowest, count};
 
 // Whether p is a member; a position above 63 never is.
@@ -10,12 +9,11 @@ pub fn member(x: u64, p: usize) -> bool
     if p < 64 { (x >> p) % 2 == 1 } else { false }
 }
 
-// The set with p. Only for callers that know p to be a position.
+// The set with p; a position above 63 leaves it as it is.
 pub fn insert(x: u64, p: usize) -> u64
-    requires { ⌜ p < 64 ⌝ }
     ensures { λ r. ⌜ r ≡ insert x p ⌝ }
 {
-    x | (1u64 << p)
+    if p < 64 { x | (1u64 << p) } else { x }
 }
 
 // The members of either set.

@@ -4,7 +4,7 @@ use mathlib.Core.List.{List, [], _∷_}
 use lib.ListN.{getD}
 use Rattle.numbers.specs.Bytes.{same}
 use Rattle.search.specs.Search.{firstWhere}
-use Rattle.text.specs.Ascii.{ascii}
+use Rattle.numbers.specs.Ascii.{ascii}
 
 -- the words of document 01's listing, and `tick`
 abbrev pub words : List (List ℕ)

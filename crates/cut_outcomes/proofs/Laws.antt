@@ -1,8 +1,8 @@
 -- Laws of outcomes: a search among those seen from a place on, one place more of an outcome, and what is noted.
-use Prim.Native.Nat.{ℕ, suc, _+_, _≤_, _<_}
-use mathlib.Core.Path.{_≡_, refl, sym, ap, _∙_}
+use Prim.Native.Nat.{ℕ, _+_, _≤_, _<_}
+use mathlib.Core.Path.{_≡_, sym, _∙_}
 use mathlib.Core.Bool.{true, false}
-use mathlib.Core.List.{List, [], _∷_, _++_}
+use mathlib.Core.List.{List, [], _∷_}
 use native.Mathlib.Numerals.{add-one}
 use native.Mathlib.Omega.{arith}
 use lib.ListN.{length, take, drop, getD, set, drop-of-length-le, length-append}
@@ -12,7 +12,7 @@ use Rattle.answers.specs.Refusals.{among}
 use Rattle.row.specs.declared.Row.{Row}
 use Rattle.table.specs.Table.{rowAt}
 use Rattle.table.specs.declared.Table.{Table}
-use Rattle.cut_outcomes.specs.Outcomes.{followed, withEnding, outcomeBelow, noted, Noted}
+use Rattle.cut_outcomes.specs.Outcomes.{followed, withEnding, outcomeBelow, Noted}
 
 -- ---- those seen, from a place on
 

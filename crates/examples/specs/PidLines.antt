@@ -1,12 +1,13 @@
 -- Lines of pids: none is given twice, pid 0, pids of 2^62 and above, and that the block outlives every call.
 use mathlib.Core.List.{List, [], _∷_, _++_}
 use lib.IntN.{pos, negsuc}
+use Rattle.numbers.specs.Ascii.{ascii}
 use Rattle.record.specs.declared.Status.the-variants.{Empty, CompleteAbort}
 use Rattle.partition.specs.Partition.{noProducer}
 use Rattle.coordinator.specs.Calls.{initCall, addCall, endCall, ackCall}
 use Rattle.server.specs.Calls.{Call, openLog, openWords, call, orderCall, produceCall, markerCall, readCall}
-use Rattle.server.specs.Lines.{Line, line, lineFrom, writes, reads, catalogueText, rig7, opened, init7, join, begins}
-use Rattle.examples.specs.Starts.{reopened, end7, ack7, holds7, preparesTwo, holdsBoth, beginsBoth, lab3, init3, init2, tickAt, flushed, record7, recordFor, rigTable, from, empty7, lentLog}
+use Rattle.server.specs.Lines.{Line, line, lineFrom, writes, reads, catalogueText, rig7, opened, init7, join}
+use Rattle.examples.specs.Starts.{reopened, end7, ack7, holds7, holdsBoth, beginsBoth, lab3, init3, init2, tickAt, flushed, record7, recordFor, rigTable, from, empty7, lentLog}
 
 -- the first pid is 0: `rig7` has it, in EMPTY, flushed
 abbrev pub holdsZero : List Call
@@ -110,5 +111,5 @@ pidLines =
     -- and so does its first, where the log's pids are below it
     line 4096 0 higherBlock init3 0 (pos 1500 ∷ pos 0 ∷ []) 2 53 ∷
     line 4096 0 (higherBlock ++ (flushed 282 ∷ init3 ∷ [])) init2 0 (pos 1501 ∷ pos 0 ∷ []) 3 53 ∷
-    line 6000 0 (higherBlock ++ (init3 ∷ init2 ∷ [])) (call (initCall (122 ∷ []) (pos 50) (pos 100))) 16 [] 3 0 ∷
+    line 6000 0 (higherBlock ++ (init3 ∷ init2 ∷ [])) (call (initCall (ascii "z") (pos 50) (pos 100))) 16 [] 3 0 ∷
     []

@@ -5,6 +5,7 @@ use mathlib.Core.List.{List, [], _∷_, _++_}
 use lib.Dec.{eqb}
 use lib.IntN.{pos, negsuc}
 use lib.ListN.{replicate, take}
+use Rattle.numbers.specs.Ascii.{ascii}
 use Rattle.record.specs.declared.Status.the-variants.{Empty, Begin, PrepareCommit, PrepareAbort, CompleteCommit, CompleteAbort}
 use Rattle.table.specs.Table.{emptyTable}
 use Rattle.partition.specs.Partition.{noProducer}
@@ -15,13 +16,13 @@ use Rattle.examples.specs.Starts.{reopened, add7, end7, putAt, putNext, 
 
 -- "scan 9", "scan 0", and "scan" twice, as texts
 abbrev pub ninePartitions : List ℕ
-ninePartitions = 115 ∷ 99 ∷ 97 ∷ 110 ∷ 9 ∷ 57 ∷ 10 ∷ []
+ninePartitions = ascii "scan\t9\n"
 
 abbrev pub noPartition : List ℕ
-noPartition = 115 ∷ 99 ∷ 97 ∷ 110 ∷ 9 ∷ 48 ∷ 10 ∷ []
+noPartition = ascii "scan\t0\n"
 
 abbrev pub sameTwice : List ℕ
-sameTwice = 115 ∷ 99 ∷ 97 ∷ 110 ∷ 9 ∷ 50 ∷ 10 ∷ 115 ∷ 99 ∷ 97 ∷ 110 ∷ 9 ∷ 49 ∷ 10 ∷ []
+sameTwice = ascii "scan\t2\nscan\t1\n"
 
 -- opening; a buffer of 16 zero bytes is a bad log, and 17 is past it
 abbrev pub openingRefusals : List Line
@@ -93,7 +94,7 @@ initRefusals =
     -- "1 name": 1 to 32 bytes, each 33 to 126; 2 would apply too
     line 2560 0 (opened ∷ []) (call (initCall [] (pos 0) (pos 100))) 1 [] 0 0 ∷
     line 2560 0 (opened ∷ []) (call (initCall (replicate 33 97) (pos 0) (pos 100))) 1 [] 0 0 ∷
-    line 2560 0 (opened ∷ []) (call (initCall (114 ∷ 32 ∷ []) (pos 0) (pos 100))) 1 [] 0 0 ∷
+    line 2560 0 (opened ∷ []) (call (initCall (ascii "r ") (pos 0) (pos 100))) 1 [] 0 0 ∷
     line 2560 0 (opened ∷ []) (call (initCall (127 ∷ []) (pos 0) (pos 100))) 1 [] 0 0 ∷
     line 2560 0 (opened ∷ []) (call (initCall (114 ∷ 0 ∷ []) (pos 0) (pos 100))) 1 [] 0 0 ∷
     -- "2 timeout not 1..900000": 12 would apply too
@@ -126,7 +127,7 @@ initRefusals =
     line 2157 0 holds7 init3 17 [] 1 0 ∷
     line 1131 0 holds7 (init7 (pos 50)) 17 [] 1 0 ∷
     -- of a name held among 32, which is no 15
-    from fullTable noProducer [] (call (initCall (97 ∷ []) (pos 50) (pos 100))) 17 [] 32 0 ∷
+    from fullTable noProducer [] (call (initCall (ascii "a") (pos 50) (pos 100))) 17 [] 32 0 ∷
     []
 
 -- Add

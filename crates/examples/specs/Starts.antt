@@ -4,6 +4,7 @@ use mathlib.Core.Bool.{true, false}
 use mathlib.Core.List.{List, [], _∷_, _++_}
 use lib.IntN.{ℤ, pos}
 use lib.ListN.{length, replicate}
+use Rattle.numbers.specs.Ascii.{ascii}
 use Rattle.answers.specs.Limits.{places}
 use Rattle.catalogue.specs.Catalogue.{parse}
 use Rattle.numbers.specs.Padded.{padded}
@@ -90,7 +91,7 @@ flushed n = call (flushCall n)
 -- ---- calls of `lab3`, which comes second and has place 1 and pid 1001
 
 abbrev pub lab3 : List ℕ
-lab3 = 108 ∷ 97 ∷ 98 ∷ 51 ∷ []
+lab3 = ascii "lab3"
 
 abbrev pub init3 : Call
 init3 = call (initCall lab3 (pos 50) (pos 100))
@@ -122,7 +123,7 @@ preparesBoth = beginsBoth 256 ++ (end7 0 ∷ end3 1 ∷ call (flushCall 374) ∷
 -- ---- Init of a third name, `bay2`
 
 abbrev pub init2 : Call
-init2 = call (initCall (98 ∷ 97 ∷ 121 ∷ 50 ∷ []) (pos 50) (pos 100))
+init2 = call (initCall (ascii "bay2") (pos 50) (pos 100))
 
 -- ---- states given directly
 
@@ -156,7 +157,7 @@ beginTable epoch = apply emptyTable 0 (withEnd (record7 Begin epoch 1 90 80) 53)
 
 -- the table with every place taken, none of them by `rig7` or `lab3`
 abbrev pub fullTable : Table
-fullTable = record { rows = replicate places (withEnd (recordFor (97 ∷ []) 7 0 60000 Empty 0 90 0) 53); next = 8; updated = 90; end = 53 }
+fullTable = record { rows = replicate places (withEnd (recordFor (ascii "a") 7 0 60000 Empty 0 90 0) 53); next = 8; updated = 90; end = 53 }
 
 -- a producer of this pid with this epoch and last sequence, whose transaction is closed
 abbrev pub closedProducer : ℕ → ℕ → ℕ → Producer

@@ -8,4 +8,5 @@ pub mod Verdicts
 pub mod Progress
 pub mod Slices
 pub mod Tables
+pub mod Unwritten
 pub mod Pids

@@ -3,13 +3,14 @@ use Prim.Native.Nat.{ℕ}
 use mathlib.Core.Bool.{cond}
 use mathlib.Core.List.{List, [], _∷_}
 use lib.ListN.{length}
-use lib.IntN.{ℤ, pos, negsuc}
+use lib.IntN.{pos, negsuc}
+use Rattle.numbers.specs.Ascii.{ascii}
 use Rattle.numbers.specs.Padded.{padded}
 use Rattle.record.specs.Limits.{nameMax}
 use Rattle.record.specs.Record.{idle}
 use Rattle.record.specs.declared.Record.{Record}
 use Rattle.record.specs.declared.Status.{Status}
-use Rattle.record.specs.declared.Status.the-variants.{Empty, Begin, PrepareCommit, PrepareAbort, CompleteCommit, CompleteAbort}
+use Rattle.record.specs.declared.Status.the-variants.{Begin, PrepareCommit}
 use Rattle.catalogue.specs.Catalogue.{parse}
 use Rattle.row.specs.declared.Row.{Row}
 use Rattle.coordinator.specs.Open.{blankState}
@@ -21,7 +22,7 @@ use Rattle.runs.specs.World.{Leader, World, Phase, up, Carrying, nothing}
 
 -- `scan` with two partitions
 abbrev pub scanText : List ℕ
-scanText = 115 ∷ 99 ∷ 97 ∷ 110 ∷ 9 ∷ 50 ∷ 10 ∷ []
+scanText = ascii "scan\t2\n"
 
 abbrev pub name7 : List ℕ
 name7 = padded nameMax rig7

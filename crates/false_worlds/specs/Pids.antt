@@ -2,6 +2,7 @@
 use Prim.Native.Nat.{ℕ}
 use mathlib.Core.List.{List, [], _∷_}
 use lib.IntN.{pos, negsuc}
+use Rattle.numbers.specs.Ascii.{ascii}
 use Rattle.numbers.specs.Padded.{padded}
 use Rattle.record.specs.Limits.{nameMax}
 use Rattle.record.specs.declared.Record.{Record}
@@ -15,7 +16,7 @@ pub data GivenAgain : Type 0 where
 
 -- `rig8`
 abbrev pub name8 : List ℕ
-name8 = padded nameMax (114 ∷ 105 ∷ 103 ∷ 56 ∷ [])
+name8 = padded nameMax (ascii "rig8")
 
 -- a record that gives pid 1000 to a name
 abbrev pub gives : List ℕ → Record

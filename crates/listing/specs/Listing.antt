@@ -3,12 +3,11 @@ use Prim.Native.Nat.{ℕ, _+_, _≤_}
 use mathlib.Core.Bool.{cond}
 use mathlib.Core.List.{List, [], _∷_, map}
 use lib.Dec.{ltb}
-use lib.IntN.{ℤ}
 use lib.ListN.{length, take}
 use mir.Syntax.{w64}
 use Rattle.numbers.specs.Bytes.{overwrite}
 use Rattle.numbers.specs.Signed.{signedOf}
-use Rattle.text.specs.Ascii.{ascii}
+use Rattle.numbers.specs.Ascii.{ascii}
 use Rattle.text.specs.Decimal.{decimal, signedDecimal}
 use Rattle.text.specs.Lines.{line}
 use Rattle.command.specs.Words.{wordAt}

@@ -4,7 +4,7 @@ use mathlib.Core.List.{[], _∷_}
 use lib.IntN.{pos, negsuc}
 use Rattle.numbers.specs.Bytes.{same}
 use Rattle.search.specs.Search.{firstWhere, all}
-use Rattle.text.specs.Ascii.{ascii}
+use Rattle.numbers.specs.Ascii.{ascii}
 use Rattle.text.specs.Decimal.{valueFrom, decimal, decimalWithin, signedDecimal}
 use Rattle.text.specs.Lines.{fields, line}
 use Rattle.fields.specs.Fields.{part, fieldsFrom, fieldsOf}

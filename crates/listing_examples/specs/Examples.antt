@@ -4,7 +4,7 @@ use mathlib.Core.Path.{_≡_}
 use mathlib.Core.List.{List, [], _∷_}
 use lib.IntN.{pos, negsuc}
 use Rattle.search.specs.Search.{Each}
-use Rattle.text.specs.Ascii.{ascii}
+use Rattle.numbers.specs.Ascii.{ascii}
 use Rattle.fields.specs.Fields.{part}
 use Rattle.command.specs.Command.{commandOf, rowOfCommand}
 use Rattle.command.specs.declared.Command.{Command}

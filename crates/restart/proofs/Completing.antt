@@ -116,7 +116,7 @@ module _ (w : World) (i : Invariant w) (s : Coordinator) (u : w .phase ≡ up s)
       let new = withAcknowledged row (insert (row .acknowledged) (o .position)) in
       let sums = sum-set (rowLeft (s .flushed)) (s .table .rows) freeRow (o .place) new inside in
       let there : rowLeft (s .flushed) new ≡ count (difference (row .joined) (insert (row .acknowledged) (o .position))) = rw (passed .prepares, passed .flushed) refl in
-      let one = count-left 64 (row .joined) (row .acknowledged) (o .position) (joined-small w i s u o way) (acks-of w i s u .small (o .place)) (position-below w i s u o way)
+      let one = count-left (row .joined) (row .acknowledged) (o .position) (joined-small w i s u o way) (acks-of w i s u .small (o .place)) (position-below w i s u o way)
       (member-true (row .joined) (o .position) (row-joins w i s u o way)) (member-false (row .acknowledged) (o .position) (way .waits)) in
       omega (arith, here)
 

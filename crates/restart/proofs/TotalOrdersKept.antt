@@ -226,7 +226,7 @@ module _ (p : Logged) (prepares : isPrepare (p .content .status) ≡ true) (n : 
               ∙ ap (λ (y : Logged). placeIn c (recordsOf h) (y .content .name)) (sym (same-prepare q)) ∙ prepare-of w i s u o way .place in
               let left : leftOf p (up noted) ≡ count (difference (row .joined) (insert (row .acknowledged) (o .position))) = ap (λ (k : ℕ). count (outstanding (rowAt (noted .table) k))) at
               ∙ ap (λ (y : Row). count (outstanding y)) (acknowledged-row s (o .place) (o .position) inside) in
-              let one = count-left 64 (row .joined) (row .acknowledged) (o .position) (joined-small w i s u o way) (acks-of w i s u .small (o .place)) (position-below w i s u o way)
+              let one = count-left (row .joined) (row .acknowledged) (o .position) (joined-small w i s u o way) (acks-of w i s u .small (o .place)) (position-below w i s u o way)
               (member-true (row .joined) (o .position) (row-joins w i s u o way)) (member-false (row .acknowledged) (o .position) (way .waits)) in
               unfinished (rw records e) (let a = carried-here q in let b = own-left q in omega arith)
           go (unfinished e f) (no d) =

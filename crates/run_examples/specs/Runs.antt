@@ -3,6 +3,7 @@ use Prim.Native.Nat.{ℕ}
 use mathlib.Core.List.{List, [], _∷_, _++_, map}
 use lib.IntN.{pos}
 use lib.ListN.{take, drop, replicate}
+use Rattle.numbers.specs.Ascii.{ascii}
 use Rattle.record.specs.declared.Record.{Record}
 use Rattle.server.specs.Lines.{rig7}
 use Rattle.runs.specs.History.{recordsOf, contents}
@@ -12,11 +13,11 @@ use Rattle.writable_logs.specs.Writer.{WriterItem, call as byWriter}
 
 -- `scan` with two partitions
 abbrev pub scanText : List ℕ
-scanText = 115 ∷ 99 ∷ 97 ∷ 110 ∷ 9 ∷ 50 ∷ 10 ∷ []
+scanText = ascii "scan\t2\n"
 
 -- the name `lab3`
 abbrev pub lab3 : List ℕ
-lab3 = 108 ∷ 97 ∷ 98 ∷ 51 ∷ []
+lab3 = ascii "lab3"
 
 -- a log buffer
 abbrev pub buffer : List ℕ

@@ -3,6 +3,7 @@ use Prim.Native.Nat.{ℕ, _-_, _*_}
 use mathlib.Core.List.{List, [], _∷_}
 use lib.IntN.{ℤ, pos}
 use lib.ListN.{replicate, take, drop}
+use Rattle.numbers.specs.Ascii.{ascii}
 use Rattle.catalogue.specs.Catalogue.{parse}
 use Rattle.record.specs.Limits.{nameMax}
 use Rattle.record.specs.declared.Status.the-variants.{CompleteAbort}
@@ -19,11 +20,11 @@ use Rattle.server.specs.Calls.{Server, Call, openLog, openWords, call, p
 
 -- "catalogue scan 2, cert 1", as text
 abbrev pub catalogueText : List ℕ
-catalogueText = 115 ∷ 99 ∷ 97 ∷ 110 ∷ 9 ∷ 50 ∷ 10 ∷ 99 ∷ 101 ∷ 114 ∷ 116 ∷ 9 ∷ 49 ∷ 10 ∷ []
+catalogueText = ascii "scan\t2\ncert\t1\n"
 
 -- "name `rig7`"
 abbrev pub rig7 : List ℕ
-rig7 = 114 ∷ 105 ∷ 103 ∷ 55 ∷ []
+rig7 = ascii "rig7"
 
 -- before any call: a log buffer and a partition slice of these lengths, and a slice of one word to read into
 abbrev pub lent : ℕ → ℕ → Server

@@ -1,5 +1,4 @@
 -- Definitions of the crate text.
-pub mod Ascii
 pub mod Decimal
 pub mod Lines
 pub mod Limits

@@ -161,13 +161,13 @@ module _ (text : List ℕ) (place : ℕ) (r : Record) where
         some-left z =
             let joins = member-true (row .joined) n (parts .0) in
             let new = member-false (row .acknowledged) n (parts .1) in
-            let one-less = count-left 64 (row .joined) (row .acknowledged) n (a .joined-fits) (a .acknowledged-fits) few joins new in
+            let one-less = count-left (row .joined) (row .acknowledged) n (a .joined-fits) (a .acknowledged-fits) few joins new in
             eqb-false (count (outstanding row)) 1 l (one-less ∙ rw (z, count-none))
 
         -- all below it
         left-below : (p : ℕ) → member (difference (row .joined) (insert (row .acknowledged) n)) p ≡ true → p < n
         left-below p e =
-            let (before, other) = left-without 64 (row .joined) (row .acknowledged) n p (a .joined-fits) (a .acknowledged-fits) few e in
+            let (before, other) = left-without (row .joined) (row .acknowledged) n p (a .joined-fits) (a .acknowledged-fits) few e in
             omega (arith, a .below p before)
 
         noted : Acknowledging (acts (acknowledge place n) x) place r n

@@ -10,6 +10,6 @@ mod Appends
 mod ClockCall
 mod Acks
 mod Completing
-mod CouldWrite
+pub mod CouldWrite
 mod Places
 pub mod Demand2

@@ -1,5 +1,5 @@
 -- `after_cut::carry_all` meets its contract. The loop's invariant: what is left of the rounds leads to the same memory.
-use mathlib.Core.Path.{_≡_, refl, sym, ap, _∙_}
+use mathlib.Core.Path.{_≡_, refl, sym, _∙_}
 use native.Mathlib.Omega.{arith}
 use lib.ListN.{length}
 use borrow.Author.Needs.{needs}

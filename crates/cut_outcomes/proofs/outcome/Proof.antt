@@ -10,7 +10,7 @@ use Rattle.row.specs.Row.{freeRow}
 use Rattle.cut_outcomes.proofs.Laws.{below-followed, below-left}
 use borrow.Author.Needs.{needs}
 use Rattle.answers.specs.Limits.{places}
-use Rattle.cut_outcomes.specs.Outcomes.{followed, outcomeBelow}
+use Rattle.cut_outcomes.specs.Outcomes.{outcomeBelow}
 use Rattle.cut_outcomes.proofs.outcome.Statement.{statement}
 use Rattle.cut_outcomes.proofs.outcome.Tie as tie
 

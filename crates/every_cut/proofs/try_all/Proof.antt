@@ -1,7 +1,6 @@
 -- `every_cut::try_all` meets its contract.
 use Prim.Native.Nat.{_+_, _-_, _≤_}
 use mathlib.Core.Path.{_≡_}
-use native.Mathlib.Omega.{arith}
 use lib.ListN.{length}
 use borrow.Author.Needs.{needs}
 use Rattle.every_cut.proofs.try_all.Statement.{statement}
