@@ -18,7 +18,7 @@ use Rattle.catalogue.specs.Catalogue.{nameField, topicName, position, pa
 use Rattle.catalogue.specs.Format.{TopicLine, noLine, Renders}
 use Rattle.catalogue.proofs.Names.{field-byte}
 use Rattle.catalogue.proofs.Positions.{partition-position, partitions-past}
-use Rattle.catalogue.proofs.Topics.{catalogueOf, Good, Different, setsOf, sets-below, set-at, held-name, held-sized, with-lines}
+use Rattle.catalogue.proofs.Topics.{catalogueOf, Good, Different, setsOf, sets-below, set-at, held-name, with-lines}
 use Rattle.catalogue.proofs.Format.{accepted-is}
 
 -- a topic that has partitions is a line's
@@ -74,11 +74,6 @@ module _ (text : List ℕ) (c : Catalogue) (e : parse text ≡ accepted c) where
       let r = accepted-is text c e in
       let m : 2 ^ (8 * length (r .lines)) ≤ 2 ^ 64 = pow-mono {j = 64} (omega (arith, r .few)) in
       subst (λ (x : Catalogue). x .all < 2 ^ 64) (sym held) (lt-of-lt-of-le (sets-below (r .lines) (r .good)) m)
-
-  pub names-sized : length (c .names) ≡ 128
-  names-sized =
-      let r = accepted-is text c e in
-      ap (λ (x : Catalogue). length (x .names)) held ∙ held-sized (r .lines) (r .good) (r .few)
 
 -- no two topics of a text that is not refused have one name
 pub parsed-distinct : (text : List ℕ) → parse text .refusal ≡ 0 → Distinct (parse text .catalogue)

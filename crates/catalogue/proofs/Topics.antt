@@ -6,7 +6,7 @@ use Prim.Native.Nat.{ℕ, zero, suc, _+_, _-_, _*_, _/_, _^_, _≤_, _<_}
 use native.Mathlib.Nat.{mul-assoc, mul-comm, div-div-eq-div-mul}
 use native.Mathlib.Decide.{decLt}
 use native.Mathlib.Omega.{arith}
-use lib.ListN.{length, take, drop, getD, replicate, length-append, length-replicate, replicate-append-replicate, List·getD-append}
+use lib.ListN.{length, take, drop, getD, replicate, length-append, replicate-append-replicate, List·getD-append}
 use lib.Seq.{take-at, drop-at, drop-drop, append-snoc, getD-append-seam}
 use Rattle.numbers.specs.Bytes.{overwrite}
 use Rattle.numbers.specs.Padded.{untilZero, padded}
@@ -143,9 +143,6 @@ pub held-name : (ls : List TopicLine) (u : ℕ) → Good ls → u < length ls �
 held-name ls u g h =
     let l = getD ls u noLine in
     ap untilZero (held-field ls u g h) ∙ until-padded (l .name) (16 - length (l .name)) (no-zero l (g u h))
-
-pub held-sized : (ls : List TopicLine) → Good ls → length ls ≤ 8 → length (catalogueOf ls .names) ≡ 128
-held-sized ls g h = rw (length-append, fields-length ls g, length-replicate) (omega arith)
 
 pub good-left : (ls rest : List TopicLine) → Good (ls ++ rest) → Good ls
 good-left ls rest g i h = rw (List·getD-append ls rest noLine i h) at (g i (omega (arith, length-append ls rest)))

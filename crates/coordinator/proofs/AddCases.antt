@@ -15,7 +15,7 @@ use Rattle.row.specs.Row.{isBegin, isPrepare}
 use Rattle.row.specs.Steps.{begun, widened}
 use Rattle.answers.specs.Refusals.{firstRefusal, numbersOf, among}
 use Rattle.answers.specs.declared.Answer.the-variants.{Done, Refused}
-use Rattle.answers.proofs.Laws.{or-false-left, or-false-right, none-applies, none-is, unless-accepted, unless-refused}
+use Rattle.answers.proofs.Laws.{or-false-left, or-false-right, none-applies, none-is, unless-accepted}
 use Rattle.table.specs.Table.{idCount}
 use Rattle.coordinator.specs.Coordinator.{admits, placeOfName, rowOf, holdsName, unflushed, clockAt, logFull, keep, advance, append}
 use Rattle.coordinator.specs.Add.{allJoined, addRow, addRowTests, addTests, addAction, add}
@@ -23,11 +23,6 @@ use Rattle.coordinator.specs.declared.Coordinator.{Coordinator}
 use Rattle.coordinator.proofs.Held.{name-held, pid-held, held-is}
 
 module _ (s : Coordinator) (n : ℕ) (name : List ℕ) (pid epoch : ℤ) (set : ℕ) (time : ℤ) where
-  pub add-refused : (firstRefusal (addTests s n name pid epoch set time) ≡ 0 → ⊥)
-      → add s n name pid epoch set time ≡ record { answer = Refused (firstRefusal (addTests s n name pid epoch set time)); action = keep }
-  unfolding add
-  add-refused h = unless-refused _ Refused keep _ h
-
   -- ---- what the tests leave
 
   pub record AddPassed : Type 0 where

@@ -11,18 +11,13 @@ use Rattle.row.specs.Row.{isBegin, isPrepare}
 use Rattle.row.specs.Steps.{prepared, prepareOf, ended, raise}
 use Rattle.answers.specs.Refusals.{firstRefusal, numbersOf, among}
 use Rattle.answers.specs.declared.Answer.the-variants.{Done, Refused}
-use Rattle.answers.proofs.Laws.{none-applies, none-is, unless-accepted, unless-refused}
-use Rattle.coordinator.specs.Coordinator.{admits, placeOfName, rowOf, holdsName, unflushed, clockAt, keep, advance, append}
+use Rattle.answers.proofs.Laws.{none-applies, none-is, unless-accepted}
+use Rattle.coordinator.specs.Coordinator.{admits, placeOfName, rowOf, holdsName, unflushed, clockAt, keep, append}
 use Rattle.coordinator.specs.End.{endFits, endRowTests, endTests, endAction, end}
 use Rattle.coordinator.specs.declared.Coordinator.{Coordinator}
 use Rattle.coordinator.proofs.Held.{name-held, pid-held, held-is}
 
 module _ (s : Coordinator) (n : ℕ) (name : List ℕ) (pid epoch : ℤ) (verdict : ℕ) (time : ℤ) where
-  pub end-refused : (firstRefusal (endTests s n name pid epoch verdict) ≡ 0 → ⊥)
-      → end s n name pid epoch verdict time ≡ record { answer = Refused (firstRefusal (endTests s n name pid epoch verdict)); action = keep }
-  unfolding end
-  end-refused h = unless-refused _ Refused keep _ h
-
   -- ---- what the tests leave
 
   pub record EndPassed : Type 0 where
@@ -85,8 +80,3 @@ module _ (s : Coordinator) (n : ℕ) (name : List ℕ) (pid epoch : ℤ) (verdic
         }
     unfolding endAction
     end-prepared b = end-accepted ∙ rw b
-
-    pub end-nothing : isBegin (rowOf s name .status) ≡ false
-        → end s n name pid epoch verdict time ≡ record { answer = Done; action = advance (clockAt s time) }
-    unfolding endAction
-    end-nothing b = end-accepted ∙ rw b

@@ -17,18 +17,13 @@ use Rattle.row.specs.Steps.{initialized, prepared, fenced, raise}
 use Rattle.answers.specs.Limits.{places}
 use Rattle.answers.specs.Refusals.{firstRefusal, numbersOf, among}
 use Rattle.answers.specs.declared.InitAnswer.the-variants.{Given, Aborting, Refused}
-use Rattle.answers.proofs.Laws.{none-applies, none-is, unless-accepted, unless-refused}
+use Rattle.answers.proofs.Laws.{none-applies, none-is, unless-accepted}
 use Rattle.table.specs.Table.{placeFor, lowestFree}
 use Rattle.coordinator.specs.Coordinator.{admits, rowOf, holdsName, unflushed, clockAt, newPid, logFull, keep, append}
 use Rattle.coordinator.specs.Init.{needsPid, initRow, idsThen, initRowTests, initTests, initAccepted, init}
 use Rattle.coordinator.specs.declared.Coordinator.{Coordinator}
 
 module _ (s : Coordinator) (n : ℕ) (name : List ℕ) (timeout time : ℤ) where
-  pub init-refused : (firstRefusal (initTests s n name timeout time) ≡ 0 → ⊥)
-      → init s n name timeout time ≡ record { answer = Refused (firstRefusal (initTests s n name timeout time)); action = keep }
-  unfolding init
-  init-refused h = unless-refused _ Refused keep _ h
-
   -- ---- what the tests leave
 
   pub record InitPassed : Type 0 where

@@ -113,7 +113,9 @@ fn move_to_front(buffer: &mut [u8], from: usize, n: usize)
 
 // Makes room to read on: the unfinished line stands at the front, or is dropped if it fills the buffer.
 pub fn keep(buffer: &mut [u8], cursor: Cursor) -> Cursor
-    ensures { λ r. ⌜ (r ≡ keptCursor (now (buffer .entry)) cursor) × (now (buffer .exit) ≡ keptBytes (now (buffer .entry)) cursor) × (r .end ≤ length (now (buffer .entry))) ⌝ }
+    ensures answer { λ r. ⌜ r ≡ keptCursor (now (buffer .entry)) cursor ⌝ }
+    ensures bytes { λ _. ⌜ now (buffer .exit) ≡ keptBytes (now (buffer .entry)) cursor ⌝ }
+    ensures within { λ r. ⌜ r .end ≤ length (now (buffer .entry)) ⌝ }
 {
     let n = pending(buffer.len(), cursor);
     if cursor.skipping {

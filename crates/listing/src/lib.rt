@@ -183,7 +183,9 @@ pub fn render(
     flushed: usize,
     payloads: &[u64],
 ) -> Rendered
-    ensures { λ r. ⌜ (r ≡ renderAnswer row reply log flushed (now (payloads .entry)) (now (out .entry)) at) × (now (out .exit) ≡ renderBytes row reply log flushed (now (payloads .entry)) (now (out .entry)) at) × Within r (length (now (out .entry))) ⌝ }
+    ensures answer { λ r. ⌜ r ≡ renderAnswer row reply log flushed (now (payloads .entry)) (now (out .entry)) at ⌝ }
+    ensures bytes { λ _. ⌜ now (out .exit) ≡ renderBytes row reply log flushed (now (payloads .entry)) (now (out .entry)) at ⌝ }
+    ensures within { λ r. ⌜ Within r (length (now (out .entry))) ⌝ }
 {
     if out.len() < at {
         return Rendered::NoRoom;

@@ -119,10 +119,10 @@ pub wrote-line : (command : Command) (response : Response) (payloads out : List 
     → row ≡ rowOfCommand command
     → shown ≡ replyRendered command response (length payloads)
     → listed ≡ numbersListed (response .results) payloads
-    → (r ≡ renderAnswer row shown end flushed listed out 0) × (left ≡ renderBytes row shown end flushed listed out 0) × Within r (length out)
+    → (r ≡ renderAnswer row shown end flushed listed out 0) × ((left ≡ renderBytes row shown end flushed listed out 0) × Within r (length out))
     → next ≡ placeBehind r
     → Wrote (lineShown command (replyOf response payloads) end flushed) out 0 next left × (next ≤ length out)
-wrote-line command response payloads out end flushed {r = r} room e s l (a, b, w) n =
+wrote-line command response payloads out end flushed {r = r} room e s l (a, (b, w)) n =
     let few = few-listed (response .results) payloads in (
       rw (← line-rendered command response payloads end flushed)
           (rendered-wrote (rowOfCommand command) (replyRendered command response (length payloads)) end flushed (numbersListed (response .results) payloads) out (omega (arith, few, room)) (rw (e, s, l) at a) (rw (e, s, l) at b) n),

@@ -53,10 +53,6 @@ module _ {A : Type 0} (p : A → Bool) where
   unfolding firstWhere
   none = refl
 
-  pub first-most : (l : List A) → firstWhere p l ≤ length l
-  first-most [] = omega (arith, none)
-  first-most (x ∷ l) = either (p x) (λ e. omega (arith, hit x l e)) (λ e. omega (arith, miss x l e, first-most l))
-
   pub first-found : (l : List A) (d : A) → firstWhere p l < length l → p (getD l (firstWhere p l) d) ≡ true
   first-found [] d h = absurd (omega arith)
   first-found (x ∷ l) d h =

@@ -80,10 +80,6 @@ module _ (fs gs : List (List ℕ)) (s : List ℕ) (at : ℕ) (fit : Fit (fs ++ g
 -- ---- a line: its word, its fields and a line feed
 
 module _ (word : List ℕ) (fs : List (List ℕ)) (s : List ℕ) (at : ℕ) (room : at + length (line word fs) ≤ length s) where
-  pub word-fits : at + length word ≤ length s
-  unfolding line
-  word-fits = first-fits s at word (fields fs ++ (code "\n" ∷ [])) room
-
   behind-word : {next : ℕ} {t : List ℕ} → Wrote word s at next t → next + length (fields fs ++ (code "\n" ∷ [])) ≤ length t
   unfolding line
   behind-word w = then-fits s at word (fields fs ++ (code "\n" ∷ [])) room w

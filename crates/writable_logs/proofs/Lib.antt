@@ -1,4 +1,4 @@
--- Laws of the crate writer: what its items do to a log and its records, and the theorem of demand 2.
+-- Laws of the crate writable_logs: what its items do to a log and its records, and the theorem of demand 2.
 pub mod Decisions
 pub mod Lawful
 pub mod Written

@@ -14,14 +14,14 @@ returns c =
     let p = c .before in
     let s = p .before .before in
     let d = drop-skipped (s .args .buffer .now) (s .args .cursor) (p .pending .ensures) (c .if1 .taken) in
-    (d .0, d .1, omega arith)
+    (d .0, (d .1, omega arith))
 
 returns-2 : tie.Need-returns-2
 returns-2 c =
     let p = c .before .before in
     let s = p .before .before in
     let d = drop-full (s .args .buffer .now) (s .args .cursor) (p .pending .ensures) (c .before .if1 .left) (c .if2 .taken) in
-    (d .0, d .1, omega arith)
+    (d .0, (d .1, omega arith))
 
 move-to-front-requires : tie.Need-move-to-front-requires
 move-to-front-requires c κs = search needs
@@ -37,8 +37,7 @@ returns-3 c =
     let s = p .before .before in
     let b = s .args .buffer .now in (
       keep-cursor b (s .args .cursor) (p .pending .ensures) (e .before .if1 .left) (e .if2 .left),
-      m .move-to-front .ensures ∙ keep-bytes b (s .args .cursor) (p .pending .ensures) (e .before .if1 .left) (e .if2 .left),
-      omega (arith, p .pending .ensures),
+      (m .move-to-front .ensures ∙ keep-bytes b (s .args .cursor) (p .pending .ensures) (e .before .if1 .left) (e .if2 .left), omega (arith, p .pending .ensures)),
     )
 
 returns-4 : tie.Need-returns-4
@@ -48,8 +47,7 @@ returns-4 c =
     let s = p .before .before in
     let b = s .args .buffer .now in (
       keep-cursor b (s .args .cursor) (p .pending .ensures) (e .before .if1 .left) (e .if2 .left),
-      keep-none b (s .args .cursor) (p .pending .ensures) (e .before .if1 .left) (e .if2 .left) (c .if3 .left),
-      omega (arith, p .pending .ensures),
+      (keep-none b (s .args .cursor) (p .pending .ensures) (e .before .if1 .left) (e .if2 .left) (c .if3 .left), omega (arith, p .pending .ensures)),
     )
 
 pub keep-spec : {M : Type 1} → statement M

@@ -19,7 +19,7 @@ returns c =
     let a = c .before .before .before .args in
     let p = no-room (a .row) (a .reply) (a .log) (a .flushed) (a .payloads .now) (a .out .now) (a .at)
     (place-past (length (a .out .now)) (a .at) (length (a .payloads .now)) (c .if1 .taken)) in
-    (p .0, p .1, tt)
+    (p .0, (p .1, tt))
 
 sub-room : tie.Need-sub-room
 sub-room c = search needs
@@ -29,14 +29,14 @@ returns-2 c =
     let a = c .before .before .before .before .args in
     let p = no-room (a .row) (a .reply) (a .log) (a .flushed) (a .payloads .now) (a .out .now) (a .at)
     (room-fixed (length (a .out .now)) (a .at) (length (a .payloads .now)) (c .before .if1 .left) (c .if2 .taken)) in
-    (p .0, p .1, tt)
+    (p .0, (p .1, tt))
 
 returns-3 : tie.Need-returns-3
 returns-3 c =
     let a = c .before .before .before .before .before .args in
     let p = no-room (a .row) (a .reply) (a .log) (a .flushed) (a .payloads .now) (a .out .now) (a .at)
     (room-payloads (length (a .out .now)) (a .at) (length (a .payloads .now)) (c .before .before .if1 .left) (c .if3 .taken)) in
-    (p .0, p .1, tt)
+    (p .0, (p .1, tt))
 
 write-line-requires : tie.Need-write-line-requires
 write-line-requires c κs = enough (c .before)
@@ -51,7 +51,7 @@ returns-4 c =
     let a = e .before .before .before .before .before .args in
     let v = w .write-line .ensures in
     let p = rendered (a .row) (a .reply) (a .log) (a .flushed) (a .payloads .now) (a .out .now) (a .at) (enough e) (v .0) in
-    (p .0, p .1, omega (arith, v .1, enough e))
+    (p .0, (p .1, omega (arith, v .1, enough e)))
 
 pub render-spec : {M : Type 1} → statement M
 render-spec =
