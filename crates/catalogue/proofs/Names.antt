@@ -1,7 +1,7 @@
 -- Laws of one topic more: two names compared, one compared with all before it, and the topic's positions.
 use mathlib.Core.Path.{_≡_, refl, sym, _∙_}
 use mathlib.Core.Bool.{Bool, true, false, not, _&&_, and-false, true≢false}
-use mathlib.Core.List.{List, []}
+use mathlib.Core.List.{List}
 use Prim.Native.Nat.{ℕ, zero, suc, _+_, _-_, _*_, _%_, _^_, _≤_, _<_}
 use native.Mathlib.Nat.{one-mul, lt-of-lt-of-le}
 use native.Mathlib.Numerals.{add-one}
@@ -13,10 +13,9 @@ use lib.Seq.{drop-cons, getD-take, getD-drop, length-take-le}
 use lib.Pow.{pow-mono, ones-lt, shl-exact}
 use borrow.Author.Tests.{eq-eqb, ne-eqb}
 use Rattle.numbers.specs.Bytes.{same}
-use Rattle.numbers.specs.Padded.{untilZero}
 use Rattle.catalogue.specs.Limits.{topicNameMax}
 use Rattle.catalogue.specs.declared.Catalogue.{Catalogue}
-use Rattle.catalogue.specs.Catalogue.{nameField, topicName, isNew}
+use Rattle.catalogue.specs.Catalogue.{nameField, isNew}
 use Rattle.catalogue.proofs.Positions.{positions-below, positions-shifted}
 
 -- ---- two names compared, a byte at a time
@@ -28,11 +27,6 @@ same-step a b k h l = rw (drop-cons a k 0 h, drop-cons b k 0 l, add-one k)
 
 pub field-byte : (c : Catalogue) (t i : ℕ) → i < topicNameMax → getD (nameField c t) i 0 ≡ getD (c .names) (topicNameMax * t + i) 0
 field-byte c t i h = getD-take topicNameMax (drop (topicNameMax * t) (c .names)) i 0 h ∙ getD-drop (topicNameMax * t) (c .names) i 0
-
--- past the array of the names there is none
-pub name-past : (c : Catalogue) (t : ℕ) → length (c .names) ≤ topicNameMax * t → topicName c t ≡ []
-unfolding untilZero
-name-past c t h = rw (drop-of-length-le (c .names) {i = topicNameMax * t} h)
 
 module _ (c : Catalogue) (sized : length (c .names) ≡ 128) where
   pub field-length : (t : ℕ) → t < 8 → length (nameField c t) ≡ 16

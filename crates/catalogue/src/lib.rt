@@ -4,7 +4,7 @@ ghost use Prim.Native.Nat.{_*_, _^_, _≤_, _<_};
 ghost use lib.ListN.{length, drop};
 ghost use Rattle.numbers.specs.Bytes.{same};
 ghost use Rattle.catalogue.specs.Limits.{topicsMax, topicNameMax, partitionsMax};
-ghost use Rattle.catalogue.specs.Catalogue.{between, nameByte, nameRun, nameField, topicName, partitionsIn, isNew, lineAt, withTopic, blank, accepted, refused, parse};
+ghost use Rattle.catalogue.specs.Catalogue.{between, nameByte, nameRun, nameField, partitionsIn, isNew, lineAt, withTopic, blank, accepted, refused, parse};
 
 // The limits of specs/Limits.antt, under the same names.
 pub const TOPICS_MAX: usize = 8;
@@ -216,9 +216,7 @@ pub fn parse(text: &[u8]) -> Parsed
     accepted(c)
 }
 
-// ---- What a catalogue holds. A number past the topics is that of a topic with no partition and an empty name.
-
-// The partitions of topic t in a set of positions.
+// The partitions of topic t in a set of positions; a number past the topics has none.
 pub fn partitions_in(set: u64, t: usize) -> u64
     ensures { λ r. ⌜ r ≡ partitionsIn set t ⌝ }
 {
@@ -226,17 +224,4 @@ pub fn partitions_in(set: u64, t: usize) -> u64
         return 0;
     }
     (set >> (PARTITIONS_MAX * t)) % 256
-}
-
-// The length of topic t's name.
-pub fn topic_name_length(c: Catalogue, t: usize) -> usize
-    ensures { λ r. ⌜ r ≡ length (topicName c t) ⌝ }
-{
-    if TOPICS_MAX <= t {
-        return 0;
-    }
-    let names = c.names;
-    let from = TOPIC_NAME_MAX * t;
-    let to = from + TOPIC_NAME_MAX;
-    numbers::until_zero(&names[from..to])
 }

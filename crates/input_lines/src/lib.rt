@@ -1,10 +1,9 @@
 // Reads standard input by lines.
+use fields::Part;
 use libc::STDIN_FILENO;
 use lines::Cursor;
 use lines::Last;
 use lines::Next;
-ghost use mathlib.Core.Path.{_≡_};
-ghost use Prim.Native.Nat.{min};
 
 // A line and where the buffer is read on behind it; one that did not fit the buffer; a part that ends no line; or the end of the input.
 pub enum Step {
@@ -103,16 +102,7 @@ pub fn behind(step: Step) -> Cursor {
     }
 }
 
-// The lesser of two numbers.
-fn lesser(a: usize, b: usize) -> usize
-    ensures { λ r. ⌜ r ≡ min a b ⌝ }
-{
-    if a < b { a } else { b }
-}
-
 // The bytes of a part, or as many of them as there are.
 pub fn part(bytes: &[u8], from: usize, len: usize) -> &[u8] {
-    let start = lesser(from, bytes.len());
-    let past = start + lesser(len, bytes.len() - start);
-    &bytes[start..past]
+    fields::bytes_of(bytes, Part { from, len })
 }
