@@ -28,7 +28,7 @@ use Rattle.log_reader.specs.Scan.{scan}
 use Rattle.coordinator.specs.Open.{takeOverTests, openTests, opening}
 use Rattle.writable_logs.specs.RecordsSay.{hasName, namesOf}
 use Rattle.writable_logs.specs.Writer.{CouldWrite}
-use Rattle.writable_logs.specs.Demand2.{InOrder, FirstBad}
+use Rattle.writable_logs.specs.Demand2.{Openable, InOrder, FirstBad}
 use Rattle.writable_logs.proofs.CouldWrite.{could-write}
 use Rattle.writable_logs.proofs.Demand2.{could-come, demand-2}
 use Rattle.false_worlds.specs.Made.{scanText}
@@ -58,6 +58,10 @@ not-in-turn otherSet = λ k. fails (could-come scanText (outOfTurn otherSet) k)
 not-in-turn sameAgain = λ k. fails (could-come scanText (outOfTurn sameAgain) k)
 not-in-turn pidOfAnother = λ k. fails (could-come scanText (outOfTurn pidOfAnother) k)
 not-in-turn updateFalls = λ k. fails (could-come scanText (outOfTurn updateFalls) k)
+
+-- so a log of their frames is not one that is opened
+pub unwritten-not-openable : (x : OutOfTurn) → Openable scanText (framesOf scans (outOfTurn x)) (outOfTurn x) [] → ⊥
+unwritten-not-openable x = λ k. not-in-turn x (k .written)
 
 -- ---- the first bad frame
 

@@ -1,20 +1,15 @@
 -- Records that the server could not have written, offsets that are not that of the first bad frame, and a buffer that lacks its reserve.
 use Prim.Native.Nat.{ℕ}
 use mathlib.Core.List.{List, [], _∷_}
-use lib.IntN.{pos, negsuc}
 use Rattle.record.specs.declared.Record.{Record}
-use Rattle.record.specs.declared.Status.the-variants.{Empty, Begin, PrepareCommit, CompleteCommit, CompleteAbort}
+use Rattle.record.specs.declared.Status.the-variants.{Begin, PrepareCommit, CompleteCommit, CompleteAbort}
 use Rattle.log_reader.specs.Records.{framesOf}
 use Rattle.false_worlds.specs.Made.{recordAt}
-use Rattle.false_worlds.specs.Tables.{scans, name3, empty7}
+use Rattle.false_worlds.specs.Tables.{scans, empty7, given3}
 
--- BEGIN of one partition at 110
+-- EMPTY of `rig7` and its BEGIN of one partition, both at 110
 abbrev pub begins7 : List Record
 begins7 = recordAt Begin 1000 0 1 110 ∷ empty7 ∷ []
-
--- EMPTY of `lab3`, by pid and last update
-abbrev pub given3 : ℕ → ℕ → Record
-given3 pid updated = record { name = name3; pid = pos pid; epoch = pos 0; timeout = pos 50; status = Empty; joined = 0; updated = pos updated; start = negsuc 0 }
 
 -- ---- records that are well formed, each by itself, and that no list of calls writes; the newest comes first
 
