@@ -22,10 +22,17 @@ pub fn prefixed_name(k: usize) -> Vec<u8> {
     format!("rig-producer-{k:02}").into_bytes()
 }
 
-/// A name that differs from the others in its first byte, and from many in its length.
+/// A name of the same length that differs from the others in its first byte.
 pub fn apart_name(k: usize) -> Vec<u8> {
-    let mut name = vec![b'A' + k as u8];
-    name.extend(std::iter::repeat_n(b'-', 7 + k % 16));
+    let mut name = b"Arig-producer-0".to_vec();
+    name[0] += k as u8;
+    name
+}
+
+/// A name that differs from the others in its first byte, and from most in its length.
+pub fn name_of_length(k: usize) -> Vec<u8> {
+    let mut name = apart_name(k);
+    name.resize(7 + k % 16, b'-');
     name
 }
 
@@ -128,9 +135,11 @@ impl Setup {
         self.each(range, |s, k| s.call(Kind::Marker, k, [k as u64, s.pid(k), 0, 0, 1]))
     }
 
-    /// An Init whose record is not flushed.
-    pub fn unflushed(mut self, k: usize) -> Setup {
-        self.make(self.call(Kind::Init, k, [60000, self.time, 0, 0, 0]));
+    /// An Init for each name, of which no record is flushed.
+    pub fn unflushed(mut self) -> Setup {
+        for k in 0..32 {
+            self.make(self.call(Kind::Init, k, [60000, self.time, 0, 0, 0]));
+        }
         self
     }
 }

@@ -6,6 +6,7 @@
 mod callgrind;
 mod cases;
 mod catalogue;
+mod clock;
 mod compare;
 mod coordinator;
 mod inputs;

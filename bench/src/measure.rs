@@ -1,13 +1,17 @@
 // Measuring: each row on each side, by instructions and by CPU time, and the table.
 use crate::callgrind;
 use crate::cases::{cases, Case};
+use crate::clock::cpu_time;
 use crate::names::{Mapped, Searched};
 use crate::reader::FastState;
 use crate::sides::{Proved, Rust, Side};
 use std::collections::HashMap;
 use std::hash::RandomState;
 use std::marker::PhantomData;
-use std::time::{Duration, Instant};
+use std::time::Duration;
+
+/// How often each time is taken, in turn over all rows and sides.
+const PASSES: usize = 40;
 
 /// The proved calls, the Rust implementation, and its other form: names in a map, or a fast hash for Read.
 fn sides() -> [Box<dyn Side>; 3] {
@@ -20,14 +24,15 @@ fn label(case: &Case, side: usize, full: bool) -> String {
 
 /// Runs each row on each side with and without its rounds, under callgrind.
 pub fn count() {
-    for row in cases() {
-        for case in row() {
-            let sums: Vec<u64> = sides().iter().enumerate().map(|(k, side)| {
-                callgrind::count(&label(&case, k, false), || (case.work)(&**side, case.counted, false));
-                callgrind::count(&label(&case, k, true), || (case.work)(&**side, case.counted, true))
-            }).collect();
-            assert!(sums.iter().all(|&sum| sum == sums[0]), "{}: {sums:?}", case.name);
+    let sides = sides();
+    for mut case in cases() {
+        let mut sums = vec![];
+        for (k, side) in sides.iter().enumerate() {
+            for full in [false, true] {
+                sums.push(callgrind::count(&label(&case, k, full), || (case.work)(&**side, case.counted, full)));
+            }
         }
+        assert!(sums[2..] == [sums[0], sums[1], sums[0], sums[1]], "{}: {sums:?}", case.name);
     }
 }
 
@@ -39,26 +44,34 @@ fn counted(case: &Case, counts: &HashMap<String, u64>) -> Option<[f64; 3]> {
     Some([per_unit(0)?, per_unit(1)?, per_unit(2)?])
 }
 
-/// The least time of the rounds in nanoseconds a unit, the sides in turn.
-fn timed(case: &Case) -> [f64; 3] {
+type Least = [[Duration; 2]; 3];
+
+/// The least CPU time of each row on each side without and with its rounds.
+fn timed(all: &mut [Case]) -> Vec<Least> {
     let sides = sides();
-    let mut least = [[Duration::MAX; 2]; 3];
-    for _ in 0..9 {
-        for (k, side) in sides.iter().enumerate() {
-            for full in [false, true] {
-                let start = Instant::now();
-                std::hint::black_box((case.work)(&**side, case.timed, full));
-                let taken = &mut least[k][usize::from(full)];
-                *taken = start.elapsed().min(*taken);
+    let mut least = vec![[[Duration::MAX; 2]; 3]; all.len()];
+    for _ in 0..PASSES {
+        for (case, least) in all.iter_mut().zip(&mut least) {
+            for (k, side) in sides.iter().enumerate() {
+                for full in [false, true] {
+                    let start = cpu_time();
+                    std::hint::black_box((case.work)(&**side, case.timed, full));
+                    let taken = &mut least[k][usize::from(full)];
+                    *taken = (cpu_time() - start).min(*taken);
+                }
             }
         }
     }
+    least
+}
+
+fn nanoseconds(case: &Case, least: &Least) -> [f64; 3] {
     least.map(|[base, full]| full.saturating_sub(base).as_nanos() as f64 / (case.units * case.timed) as f64)
 }
 
-fn verdict(goal: Option<f64>, ratio: f64) -> String {
-    match goal {
-        Some(goal) if ratio > goal + 0.005 => format!("{goal}, MISSED"),
+fn goal(case: &Case, ratio: f64) -> String {
+    match case.goal {
+        Some(goal) if ratio > goal + 0.005 => format!("{goal}, missed"),
         Some(goal) => format!("{goal}"),
         None => String::new(),
     }
@@ -66,22 +79,27 @@ fn verdict(goal: Option<f64>, ratio: f64) -> String {
 
 /// Prints the table: instructions a call, a record or an entry where they were counted, and CPU time.
 pub fn print(counts: Option<&HashMap<String, u64>>) {
-    println!("Every buffer is filled or cleared before it is measured, so that no page is touched for the first time; caches are as the run before left them.");
+    let mut all = cases();
+    let times = timed(&mut all);
+    println!("A figure is for one record of an opening, one call, or one entry of a Read. Rust finds a name by a search; the column `map` has names in the standard map, and");
+    println!("for Read a fast hash in place of the standard one. CPU time is the least of {PASSES}, the sides in turn; a ratio is ours to Rust's.");
+    println!("Every buffer was filled before, so that no page is touched for the first time, and was not cleared between two runs; caches are as the run before left them.");
     println!();
-    println!("| | ours | Rust | Rust, map | ratio | goal | ns ours | ns Rust | ns Rust, map | ratio of ns |");
+    println!("| | ours | Rust | map | ratio | goal | ns ours | ns Rust | ns map | ratio of ns |");
     println!("|---|---|---|---|---|---|---|---|---|---|");
-    for row in cases() {
-        for case in row() {
-            let times = timed(&case);
-            let figures = counts.and_then(|counts| counted(&case, counts));
-            let by = figures.unwrap_or(times);
-            let ratio = by[0] / by[1];
-            let cells = figures.map_or(["-".into(), "-".into(), "-".into()], |f| f.map(|x| format!("{x:.0}")));
-            let slow = if case.is_call && times[0] > 300.0 { " (above 0.3 us)" } else { "" };
-            println!(
-                "| {} | {} | {ratio:.2} | {} | {:.1}{slow} | {:.1} | {:.1} | {:.2} |",
-                case.name, cells.join(" | "), verdict(case.goal, ratio), times[0], times[1], times[2], times[0] / times[1]
-            );
+    let mut slow = vec![];
+    for (case, least) in all.iter().zip(&times) {
+        let times = nanoseconds(case, least);
+        let figures = counts.and_then(|counts| counted(case, counts));
+        let by = figures.unwrap_or(times);
+        let ratio = by[0] / by[1];
+        let cells = figures.map_or(["-".into(), "-".into(), "-".into()], |f| f.map(|x| format!("{x:.0}"))).join(" | ");
+        let [ours, rust, map] = times;
+        println!("| {} | {cells} | {ratio:.2} | {} | {ours:.1} | {rust:.1} | {map:.1} | {:.1} |", case.name, goal(case, ratio), ours / rust);
+        if case.is_call && ours > 300.0 {
+            slow.push(format!("{} {ours:.0}", case.name));
         }
     }
+    println!();
+    println!("Calls above 0.3 microseconds (ns): {}.", if slow.is_empty() { "none".to_string() } else { slow.join(", ") });
 }

@@ -13,7 +13,7 @@ pub struct Searched;
 
 impl Names for Searched {
     fn place(&self, ids: &[Id], name: &[u8]) -> Option<usize> {
-        ids.iter().position(|id| id.name == name)
+        ids.iter().position(|id| id.name.as_bytes() == name)
     }
 
     fn insert(&mut self, _: &[u8], _: usize) {}

@@ -145,7 +145,7 @@ impl<N: Names> Server<N> {
         self.coordinator.table.ids.get(place).map_or([0; 7], |id| {
             let kept = id.epoch as u64 * 65536 + id.status as u64;
             let times = id.updated as u64 + id.end as u64;
-            [u64::from(id.name[0]), id.pid as u64, kept, id.timeout as u64, id.joined, times, id.acknowledged]
+            [u64::from(id.name.as_bytes()[0]), id.pid as u64, kept, id.timeout as u64, id.joined, times, id.acknowledged]
         })
     }
 

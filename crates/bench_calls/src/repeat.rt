@@ -1,4 +1,4 @@
-// One call made many times, from a given state on: with names that lie one behind the other, and with pids, places and lengths that rise by one. Each function answers a sum of what was answered.
+// One call made many times, from a given state on: with the 32 names, pids and places in turn, or with times and lengths that rise by one. Each function answers a sum of what was answered.
 use crate::script::Call;
 use crate::script::Outcome;
 use crate::script::Server;
@@ -6,6 +6,9 @@ use answers::Answer;
 use coordinator::Coordinator;
 use partition::Partition;
 ghost use Prim.Native.Nat.{_≤_};
+
+// After so many calls the names, pids and places start again.
+const PLACES: usize = 32;
 
 // The bytes from one name to the next.
 const NAME_STRIDE: usize = 32;
@@ -75,7 +78,8 @@ fn init(c: Coordinator, call: Call, count: usize, names: &[u8], log: &mut [u8]) 
     let mut sum: u64 = 0;
     let mut i: usize = 0;
     while i < count {
-        let name = name_at(names, i, call.to);
+        let k = i % PLACES;
+        let name = name_at(names, k, call.to);
         let made = calls::init(s, log, name, timeout, time);
         let answer = made.answer;
         sum = with_outcome(sum, crate::script::initialized(answer));
@@ -94,8 +98,9 @@ fn add(c: Coordinator, call: Call, count: usize, names: &[u8], log: &mut [u8]) -
     let mut sum: u64 = 0;
     let mut i: usize = 0;
     while i < count {
-        let name = name_at(names, i, call.to);
-        let pid = signed_plus(call.first, i);
+        let k = i % PLACES;
+        let name = name_at(names, k, call.to);
+        let pid = signed_plus(call.first, k);
         let made = calls::add(s, log, name, pid, epoch, call.third, time);
         let answer = made.answer;
         sum = with_done(sum, answer);
@@ -114,8 +119,9 @@ fn end(c: Coordinator, call: Call, count: usize, names: &[u8], log: &mut [u8]) -
     let mut sum: u64 = 0;
     let mut i: usize = 0;
     while i < count {
-        let name = name_at(names, i, call.to);
-        let pid = signed_plus(call.first, i);
+        let k = i % PLACES;
+        let name = name_at(names, k, call.to);
+        let pid = signed_plus(call.first, k);
         let made = calls::end(s, log, name, pid, epoch, call.third, time);
         let answer = made.answer;
         sum = with_done(sum, answer);
@@ -182,8 +188,9 @@ fn ack(c: Coordinator, call: Call, count: usize, log: &mut [u8]) -> u64 {
     let mut sum: u64 = 0;
     let mut i: usize = 0;
     while i < count {
-        let place = plus(call.first, i);
-        let pid = signed_plus(call.second, i);
+        let k = i % PLACES;
+        let place = plus(call.first, k);
+        let pid = signed_plus(call.second, k);
         let made = calls::ack(s, log, place, pid, epoch, position);
         let answer = made.answer;
         sum = with_done(sum, answer);
@@ -210,8 +217,9 @@ fn produce(
     let mut sum: u64 = 0;
     let mut i: usize = 0;
     while i < count {
-        let name = name_at(names, i, call.to);
-        let pid = signed_plus(call.first, i);
+        let k = i % PLACES;
+        let name = name_at(names, k, call.to);
+        let pid = signed_plus(call.first, k);
         let made = calls::produce(
             c,
             s,
@@ -240,8 +248,9 @@ fn marker(p: Partition, call: Call, count: usize, words: &mut [u64]) -> u64 {
     let mut sum: u64 = 0;
     let mut i: usize = 0;
     while i < count {
-        let place = plus(call.first, i);
-        let pid = signed_plus(call.second, i);
+        let k = i % PLACES;
+        let place = plus(call.first, k);
+        let pid = signed_plus(call.second, k);
         let made = calls::marker(s, words, place, pid, epoch, call.fourth, leader);
         let answer = made.answer;
         sum = with_done(sum, answer);
