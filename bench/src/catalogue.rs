@@ -18,9 +18,7 @@ impl Topic {
     fn parse(line: &[u8]) -> Option<Topic> {
         let (&digit, rest) = line.split_last()?;
         let name = rest.strip_suffix(b"\t")?;
-        let fits = (1..=16).contains(&name.len())
-            && name.iter().all(|b| b.is_ascii_alphanumeric() || b"._-".contains(b))
-            && (b'1'..=b'8').contains(&digit);
+        let fits = (1..=16).contains(&name.len()) && name.iter().all(|b| b.is_ascii_alphanumeric() || b"._-".contains(b)) && (b'1'..=b'8').contains(&digit);
         fits.then(|| Topic { name: name.to_vec(), partitions: u32::from(digit - b'0') })
     }
 }

@@ -11,9 +11,19 @@ use std::marker::PhantomData;
 
 const TEXTS: [&[u8]; 3] = [TEXT, b"a\t1\n", b"x.y_Z-0123456789\t8\nb\t8\n"];
 const NAMES: [&[u8]; 12] = [
-    b"a", b"b", b"rig7", b"quad-3", b"!~", b"nnnnnnnnnnnnnnnnnnnnnnnnnnnnnnnn", b"nnnnnnnnnnnnnnnnnnnnnnnnnnnnnnn", b"aa",
+    b"a",
+    b"b",
+    b"rig7",
+    b"quad-3",
+    b"!~",
+    b"nnnnnnnnnnnnnnnnnnnnnnnnnnnnnnnn",
+    b"nnnnnnnnnnnnnnnnnnnnnnnnnnnnnnn",
+    b"aa",
     // these are none
-    b"", b"nnnnnnnnnnnnnnnnnnnnnnnnnnnnnnnnn", b"a\x7f", b"a b",
+    b"",
+    b"nnnnnnnnnnnnnnnnnnnnnnnnnnnnnnnnn",
+    b"a\x7f",
+    b"a b",
 ];
 const GOOD_NAMES: u64 = 8;
 const NUMBERS: [u64; 14] = [0, 1, 2, 31, 32, 63, 64, 1000, 32766, 32767, 2147483647, u64::MAX, 1 << 63, (1 << 63) - 1];
@@ -86,17 +96,29 @@ impl Writer<'_> {
             return self.chance.below(NAMES.len() as u64) as usize;
         }
         let k = self.chance.below(self.room.names as u64) as usize;
-        if self.room.names > GOOD_NAMES as usize { NAMES.len() + k } else { k }
+        if self.room.names > GOOD_NAMES as usize {
+            NAMES.len() + k
+        } else {
+            k
+        }
     }
 
     fn subset(&mut self, set: u64) -> u64 {
         let drawn = self.chance.next() & self.chance.next() & set;
-        if drawn == 0 { set & set.wrapping_neg() } else { drawn }
+        if drawn == 0 {
+            set & set.wrapping_neg()
+        } else {
+            drawn
+        }
     }
 
     fn member(&mut self, set: u64) -> u64 {
         let positions: Vec<u64> = (0..64).filter(|p| set >> p & 1 == 1).collect();
-        if positions.is_empty() { 0 } else { self.chance.of(&positions) }
+        if positions.is_empty() {
+            0
+        } else {
+            self.chance.of(&positions)
+        }
     }
 
     /// The kind of the next call for the id at a place.
@@ -133,7 +155,9 @@ impl Writer<'_> {
         let (pid_number, epoch_number) = (pid as u64, epoch as u64);
         let verdict = self.chance.below(2);
         match kind {
-            Kind::Open => [self.chance.of(&[end, end, flushed, flushed + (end - flushed) / 2, 0]), leader + self.chance.below(2), 1000, self.chance.of(&[1003, 1999]), 0],
+            Kind::Open => {
+                [self.chance.of(&[end, end, flushed, flushed + (end - flushed) / 2, 0]), leader + self.chance.below(2), 1000, self.chance.of(&[1003, 1999]), 0]
+            }
             Kind::Partition => [0; 5],
             Kind::Init => [self.chance.of(&[1, 60000, 900000]), self.time, 0, 0, 0],
             Kind::Add => [pid_number, epoch_number, self.subset(all), self.time, 0],
@@ -320,8 +344,20 @@ fn compare_epochs(seen: &mut Seen) {
 /// Texts that are no catalogue, or nearly.
 fn compare_texts(seen: &mut Seen) {
     let texts: [&[u8]; 14] = [
-        b"", b"\n", b"scan\t2", b"scan\t0\n", b"scan\t9\n", b"scan\t8\n", b"scan\t2\nscan\t1\n", b"sc n\t1\n", b"\t1\n", b"abcdefghijklmnopq\t1\n",
-        b"abcdefghijklmnop\t1\n", b"scan\t2\r\n", b"a\t1\nb\t1\nc\t1\nd\t1\ne\t1\nf\t1\ng\t1\nh\t8\n", b"a\t1\nb\t1\nc\t1\nd\t1\ne\t1\nf\t1\ng\t1\nh\t8\ni\t1\n",
+        b"",
+        b"\n",
+        b"scan\t2",
+        b"scan\t0\n",
+        b"scan\t9\n",
+        b"scan\t8\n",
+        b"scan\t2\nscan\t1\n",
+        b"sc n\t1\n",
+        b"\t1\n",
+        b"abcdefghijklmnopq\t1\n",
+        b"abcdefghijklmnop\t1\n",
+        b"scan\t2\r\n",
+        b"a\t1\nb\t1\nc\t1\nd\t1\ne\t1\nf\t1\ng\t1\nh\t8\n",
+        b"a\t1\nb\t1\nc\t1\nd\t1\ne\t1\nf\t1\ng\t1\nh\t8\ni\t1\n",
     ];
     for text in texts {
         for length in [0, 65, 80] {
@@ -364,7 +400,9 @@ pub fn compare(scripts: u64) {
     compare_epochs(&mut seen);
     let reads = compare_reads(&mut Chance(1));
     let calls: usize = seen.values().sum();
-    println!("Both sides answered alike: {calls} calls of {scripts} scripts and {logs} openings of whole, cut and damaged logs, {reads} reads of random entries.");
+    println!(
+        "Both sides answered alike: {calls} calls of {scripts} scripts and {logs} openings of whole, cut and damaged logs, {reads} reads of random entries."
+    );
     for kind in [Kind::Open, Kind::Init, Kind::Add, Kind::End, Kind::Tick, Kind::Flush, Kind::Order, Kind::Ack, Kind::Produce, Kind::Marker, Kind::Read] {
         let numbers: Vec<String> = seen.iter().filter(|(k, _)| k.0 == kind as u64).map(|(k, n)| format!("{}: {n}", k.1)).collect();
         println!("  {kind:?} answered {}", numbers.join(", "));

@@ -22,6 +22,11 @@ fn label(case: &Case, side: usize, full: bool) -> String {
     format!("{} / {side} / {}", case.name, if full { "full" } else { "base" })
 }
 
+/// The sums of what was answered, without and with the rounds, are the same on all sides.
+fn check(case: &Case, sums: &[u64]) {
+    assert!(sums[2..] == [sums[0], sums[1], sums[0], sums[1]], "{}: {sums:?}", case.name);
+}
+
 /// Runs each row on each side with and without its rounds, under callgrind.
 pub fn count() {
     let sides = sides();
@@ -32,7 +37,7 @@ pub fn count() {
                 sums.push(callgrind::count(&label(&case, k, full), || (case.work)(&**side, case.counted, full)));
             }
         }
-        assert!(sums[2..] == [sums[0], sums[1], sums[0], sums[1]], "{}: {sums:?}", case.name);
+        check(&case, &sums);
     }
 }
 
@@ -52,14 +57,16 @@ fn timed(all: &mut [Case]) -> Vec<Least> {
     let mut least = vec![[[Duration::MAX; 2]; 3]; all.len()];
     for _ in 0..PASSES {
         for (case, least) in all.iter_mut().zip(&mut least) {
+            let mut sums = vec![];
             for (k, side) in sides.iter().enumerate() {
                 for full in [false, true] {
                     let start = cpu_time();
-                    std::hint::black_box((case.work)(&**side, case.timed, full));
+                    sums.push((case.work)(&**side, case.timed, full));
                     let taken = &mut least[k][usize::from(full)];
                     *taken = (cpu_time() - start).min(*taken);
                 }
             }
+            check(case, &sums);
         }
     }
     least
@@ -81,9 +88,12 @@ fn goal(case: &Case, ratio: f64) -> String {
 pub fn print(counts: Option<&HashMap<String, u64>>) {
     let mut all = cases();
     let times = timed(&mut all);
-    println!("A figure is for one record of an opening, one call, or one entry of a Read. Rust finds a name by a search; the column `map` has names in the standard map, and");
-    println!("for Read a fast hash in place of the standard one. CPU time is the least of {PASSES}, the sides in turn; a ratio is ours to Rust's.");
+    println!("A figure is for one record of an opening, one call, or one entry of a Read; a ratio is ours to Rust's. Rust finds a name by a search; the column `map` has names in");
+    println!("the standard map, and for Read a fast hash in place of the standard one. CPU time is the least of {PASSES}, the sides in turn.");
     println!("Every buffer was filled before, so that no page is touched for the first time, and was not cleared between two runs; caches are as the run before left them.");
+    if counts.is_none() {
+        println!("Instructions were not counted, since there is no valgrind: the ratio is that of CPU time, and the goals are for instructions.");
+    }
     println!();
     println!("| | ours | Rust | map | ratio | goal | ns ours | ns Rust | ns map | ratio of ns |");
     println!("|---|---|---|---|---|---|---|---|---|---|");

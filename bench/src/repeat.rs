@@ -31,15 +31,14 @@ fn round<N: Names>(server: &Server<N>, call: &Call, count: usize, names: &[u8], 
         Kind::Tick => (0..count).for_each(|i| sum = with_outcome(sum, ticked(s.tick(log, plus(a, i) as i64)))),
         Kind::Flush => (0..count).for_each(|i| sum = with_outcome(sum, done(s.flush(plus(a, i) as usize)))),
         Kind::Order => (0..count).for_each(|i| sum = with_outcome(sum, ordered(s.order(a.wrapping_add(65536 * i as u64))))),
-        Kind::Ack => {
-            (0..count).for_each(|i| sum = with_outcome(sum, done(s.ack(log, in_turn(a, i) as usize, in_turn(b, i) as i64, c as i16, d as usize))))
-        }
+        Kind::Ack => (0..count).for_each(|i| sum = with_outcome(sum, done(s.ack(log, in_turn(a, i) as usize, in_turn(b, i) as i64, c as i16, d as usize)))),
         Kind::Produce => (0..count).for_each(|i| {
             let answer = p.produce(&s, words, name(i), in_turn(a, i) as i64, b as i16, c as usize, d as i32, e);
             sum = with_outcome(sum, produced(answer));
         }),
-        Kind::Marker => (0..count)
-            .for_each(|i| sum = with_outcome(sum, done(p.marker(words, in_turn(a, i) as usize, in_turn(b, i) as i64, c as i16, d, e as i32)))),
+        Kind::Marker => {
+            (0..count).for_each(|i| sum = with_outcome(sum, done(p.marker(words, in_turn(a, i) as usize, in_turn(b, i) as i64, c as i16, d, e as i32))))
+        }
         _ => {}
     }
     match call.kind {

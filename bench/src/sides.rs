@@ -27,22 +27,49 @@ pub struct Proved;
 mod library {
     extern "C" {
         pub fn bench_calls_run(
-            text: *const u8, text_length: usize, names: *const u8, names_length: usize, script: *const u64, script_length: usize,
-            log: *mut u8, log_length: usize, words: *mut u64, words_length: usize, out: *mut u64, out_length: usize,
-            notes: *mut u64, notes_length: usize,
+            text: *const u8,
+            text_length: usize,
+            names: *const u8,
+            names_length: usize,
+            script: *const u64,
+            script_length: usize,
+            log: *mut u8,
+            log_length: usize,
+            words: *mut u64,
+            words_length: usize,
+            out: *mut u64,
+            out_length: usize,
+            notes: *mut u64,
+            notes_length: usize,
         ) -> u64;
         pub fn bench_calls_repeat(
-            text: *const u8, text_length: usize, names: *const u8, names_length: usize, script: *const u64, script_length: usize,
-            call: *const u64, call_length: usize, count: usize, rounds: usize,
-            log: *mut u8, log_length: usize, words: *mut u64, words_length: usize,
+            text: *const u8,
+            text_length: usize,
+            names: *const u8,
+            names_length: usize,
+            script: *const u64,
+            script_length: usize,
+            call: *const u64,
+            call_length: usize,
+            count: usize,
+            rounds: usize,
+            log: *mut u8,
+            log_length: usize,
+            words: *mut u64,
+            words_length: usize,
         ) -> u64;
         pub fn bench_calls_open(text: *const u8, text_length: usize, log: *const u8, log_length: usize, length: usize, rounds: usize) -> u64;
         pub fn bench_calls_encode(
-            text: *const u8, text_length: usize, name: *const u8, name_length: usize, set: u64, rounds: usize, out: *mut u8, out_length: usize,
+            text: *const u8,
+            text_length: usize,
+            name: *const u8,
+            name_length: usize,
+            set: u64,
+            rounds: usize,
+            out: *mut u8,
+            out_length: usize,
         ) -> u64;
-        pub fn bench_calls_read(
-            words: *const u64, words_length: usize, entries: usize, rounds: usize, out: *mut u64, out_length: usize,
-        ) -> u64;
+        pub fn bench_calls_read(words: *const u64, words_length: usize, entries: usize, rounds: usize, out: *mut u64, out_length: usize) -> u64;
     }
 }
 
@@ -56,9 +83,20 @@ impl Side for Proved {
         // SAFETY: the pointers and lengths are those of slices that live through the call, and no two overlap of which one is written.
         unsafe {
             library::bench_calls_run(
-                l.text.as_ptr(), l.text.len(), l.names.as_ptr(), l.names.len(), script.as_ptr(), script.len(),
-                l.log.as_mut_ptr(), l.log.len(), l.words.as_mut_ptr(), l.words.len(), l.out.as_mut_ptr(), l.out.len(),
-                notes.as_mut_ptr(), notes.len(),
+                l.text.as_ptr(),
+                l.text.len(),
+                l.names.as_ptr(),
+                l.names.len(),
+                script.as_ptr(),
+                script.len(),
+                l.log.as_mut_ptr(),
+                l.log.len(),
+                l.words.as_mut_ptr(),
+                l.words.len(),
+                l.out.as_mut_ptr(),
+                l.out.len(),
+                notes.as_mut_ptr(),
+                notes.len(),
             )
         }
     }
@@ -69,9 +107,20 @@ impl Side for Proved {
         // SAFETY: as in `run`.
         unsafe {
             library::bench_calls_repeat(
-                l.text.as_ptr(), l.text.len(), l.names.as_ptr(), l.names.len(), script.as_ptr(), script.len(),
-                call.as_ptr(), call.len(), count, rounds,
-                l.log.as_mut_ptr(), l.log.len(), l.words.as_mut_ptr(), l.words.len(),
+                l.text.as_ptr(),
+                l.text.len(),
+                l.names.as_ptr(),
+                l.names.len(),
+                script.as_ptr(),
+                script.len(),
+                call.as_ptr(),
+                call.len(),
+                count,
+                rounds,
+                l.log.as_mut_ptr(),
+                l.log.len(),
+                l.words.as_mut_ptr(),
+                l.words.len(),
             )
         }
     }
