@@ -1,4 +1,5 @@
 // What the benchmark of bench/ calls: functions for a program in Rust, on numbers and slices, that make the calls of document 01 many times.
+mod outcomes;
 mod repeat;
 mod script;
 
@@ -104,7 +105,7 @@ pub extern "C" fn bench_calls_read(
     let mut sum: u64 = 0;
     let mut k: usize = 0;
     while k < rounds {
-        let told = script::copied(calls::read(p, words, 0, out));
+        let told = outcomes::copied(calls::read(p, words, 0, out));
         sum = std::num::wrapping_add_u64(sum, told.number);
         sum = std::num::wrapping_add_u64(sum, told.results[0]);
         sum = std::num::wrapping_add_u64(sum, told.results[1]);

@@ -1,6 +1,8 @@
 // One call made many times, from a given state on: with the 32 names, pids and places in turn, or with times and lengths that rise by one. Each function answers a sum of what was answered.
+use crate::outcomes;
+use crate::outcomes::Outcome;
+use crate::script;
 use crate::script::Call;
-use crate::script::Outcome;
 use crate::script::Server;
 use answers::Answer;
 use coordinator::Coordinator;
@@ -22,14 +24,14 @@ fn with_outcome(sum: u64, told: Outcome) -> u64 {
 
 // A sum of answers with one more that has no results.
 fn with_done(sum: u64, answer: Answer) -> u64 {
-    with_outcome(sum, crate::script::done(answer))
+    with_outcome(sum, outcomes::done(answer))
 }
 
 // The sum with what the state after all calls would order, so that its rows are used.
 fn with_coordinator(sum: u64, c: Coordinator) -> u64 {
     let end = std::num::wrapping_add_u64(sum, c.table.end as u64);
     let answer = calls::order(c, 0xffff_ffff_ffff_ffff);
-    with_outcome(end, crate::script::ordered(answer))
+    with_outcome(end, outcomes::ordered(answer))
 }
 
 // The sum with the stable end of the state after all calls, so that its producers are used.
@@ -44,7 +46,7 @@ fn plus(x: u64, i: usize) -> usize {
 
 // A signed number of a call that is higher by an index.
 fn signed_plus(x: u64, i: usize) -> i64 {
-    crate::script::signed_64(std::num::wrapping_add_u64(x, i as u64))
+    script::signed_64(std::num::wrapping_add_u64(x, i as u64))
 }
 
 fn lesser(a: usize, b: usize) -> usize
@@ -72,8 +74,8 @@ fn name_at(names: &[u8], i: usize, length: usize) -> &[u8] {
 
 // Init of one name after the other.
 fn init(c: Coordinator, call: Call, count: usize, names: &[u8], log: &mut [u8]) -> u64 {
-    let timeout = crate::script::signed_32(call.first);
-    let time = crate::script::signed_64(call.second);
+    let timeout = script::signed_32(call.first);
+    let time = script::signed_64(call.second);
     let mut s = c;
     let mut sum: u64 = 0;
     let mut i: usize = 0;
@@ -82,7 +84,7 @@ fn init(c: Coordinator, call: Call, count: usize, names: &[u8], log: &mut [u8]) 
         let name = name_at(names, k, call.to);
         let made = calls::init(s, log, name, timeout, time);
         let answer = made.answer;
-        sum = with_outcome(sum, crate::script::initialized(answer));
+        sum = with_outcome(sum, outcomes::initialized(answer));
         let state = made.state;
         s = state;
         i += 1;
@@ -92,8 +94,8 @@ fn init(c: Coordinator, call: Call, count: usize, names: &[u8], log: &mut [u8]) 
 
 // Add of one name after the other.
 fn add(c: Coordinator, call: Call, count: usize, names: &[u8], log: &mut [u8]) -> u64 {
-    let epoch = crate::script::signed_16(call.second);
-    let time = crate::script::signed_64(call.fourth);
+    let epoch = script::signed_16(call.second);
+    let time = script::signed_64(call.fourth);
     let mut s = c;
     let mut sum: u64 = 0;
     let mut i: usize = 0;
@@ -113,8 +115,8 @@ fn add(c: Coordinator, call: Call, count: usize, names: &[u8], log: &mut [u8]) -
 
 // End of one name after the other.
 fn end(c: Coordinator, call: Call, count: usize, names: &[u8], log: &mut [u8]) -> u64 {
-    let epoch = crate::script::signed_16(call.second);
-    let time = crate::script::signed_64(call.fourth);
+    let epoch = script::signed_16(call.second);
+    let time = script::signed_64(call.fourth);
     let mut s = c;
     let mut sum: u64 = 0;
     let mut i: usize = 0;
@@ -141,7 +143,7 @@ fn tick(c: Coordinator, call: Call, count: usize, log: &mut [u8]) -> u64 {
         let time = signed_plus(call.first, i);
         let made = calls::tick(s, log, time);
         let answer = made.answer;
-        sum = with_outcome(sum, crate::script::ticked(answer));
+        sum = with_outcome(sum, outcomes::ticked(answer));
         let state = made.state;
         s = state;
         i += 1;
@@ -173,7 +175,7 @@ fn order(c: Coordinator, call: Call, count: usize) -> u64 {
     let mut i: usize = 0;
     while i < count {
         let answer = calls::order(c, up);
-        sum = with_outcome(sum, crate::script::ordered(answer));
+        sum = with_outcome(sum, outcomes::ordered(answer));
         up = std::num::wrapping_add_u64(up, 65536);
         i += 1;
     }
@@ -182,7 +184,7 @@ fn order(c: Coordinator, call: Call, count: usize) -> u64 {
 
 // Ack of one place after the other.
 fn ack(c: Coordinator, call: Call, count: usize, log: &mut [u8]) -> u64 {
-    let epoch = crate::script::signed_16(call.third);
+    let epoch = script::signed_16(call.third);
     let position = call.fourth as usize;
     let mut s = c;
     let mut sum: u64 = 0;
@@ -210,9 +212,9 @@ fn produce(
     names: &[u8],
     words: &mut [u64],
 ) -> u64 {
-    let epoch = crate::script::signed_16(call.second);
+    let epoch = script::signed_16(call.second);
     let position = call.third as usize;
-    let sequence = crate::script::signed_32(call.fourth);
+    let sequence = script::signed_32(call.fourth);
     let mut s = p;
     let mut sum: u64 = 0;
     let mut i: usize = 0;
@@ -232,7 +234,7 @@ fn produce(
             call.fifth,
         );
         let answer = made.answer;
-        sum = with_outcome(sum, crate::script::produced(answer));
+        sum = with_outcome(sum, outcomes::produced(answer));
         let state = made.state;
         s = state;
         i += 1;
@@ -242,8 +244,8 @@ fn produce(
 
 // Marker of one place after the other.
 fn marker(p: Partition, call: Call, count: usize, words: &mut [u64]) -> u64 {
-    let epoch = crate::script::signed_16(call.third);
-    let leader = crate::script::signed_32(call.fifth);
+    let epoch = script::signed_16(call.third);
+    let leader = script::signed_32(call.fifth);
     let mut s = p;
     let mut sum: u64 = 0;
     let mut i: usize = 0;
