@@ -45,17 +45,44 @@ fn same(calls: &[Call], text: &[u8], names: &[u8], log: &[u8], words: usize, out
     assert!(ours == searched && ours == mapped, "what is left differs");
 }
 
-/// Opens a log that was cut or damaged, and shows all rows.
-fn compare_log(chance: &mut Chance, text: &[u8], log: &[u8], seen: &mut Seen) {
-    let mut buffer = log.to_vec();
-    let room = chance.of(&[0, 100, 600, 40000]);
-    for _ in 0..chance.of(&[0, 1, 1, 2]) {
-        if !buffer.is_empty() {
-            let at = chance.below(buffer.len() as u64) as usize;
-            let whole = chance.next() as u8;
-            buffer[at] = chance.of(&[buffer[at] ^ 1, buffer[at].wrapping_add(1), whole, 0]);
+/// The frames of a whole log.
+fn frames(log: &[u8]) -> Vec<&[u8]> {
+    let mut rest = log;
+    let mut frames = vec![];
+    while let Some((head, _)) = rest.split_first_chunk::<8>() {
+        let lengths = [[head[2], head[3]], [head[6], head[7]]].map(|length| usize::from(u16::from_be_bytes(length)));
+        let (frame, behind) = rest.split_at(8 + lengths[0] + lengths[1]);
+        frames.push(frame);
+        rest = behind;
+    }
+    frames
+}
+
+/// A log with a frame that stands twice, is gone or comes late, or with bytes that were changed.
+fn damaged(chance: &mut Chance, log: &[u8]) -> Vec<u8> {
+    let mut frames = frames(log);
+    let at = chance.below(frames.len() as u64 + 1) as usize;
+    match chance.below(8) {
+        0 if at < frames.len() => frames.insert(at, frames[at]),
+        1 if at < frames.len() => drop(frames.remove(at)),
+        2 if at + 1 < frames.len() => frames.swap(at, at + 1),
+        _ => {}
+    }
+    let mut bytes = frames.concat();
+    for _ in 0..chance.of(&[0, 0, 1, 1, 2]) {
+        if !bytes.is_empty() {
+            let at = chance.below(bytes.len() as u64) as usize;
+            let any = chance.next() as u8;
+            bytes[at] = chance.of(&[bytes[at] ^ 1, bytes[at].wrapping_add(1), any, 0]);
         }
     }
+    bytes
+}
+
+/// Opens a log that was cut or damaged, and shows all rows.
+fn compare_log(chance: &mut Chance, text: &[u8], log: &[u8], seen: &mut Seen) {
+    let mut buffer = damaged(chance, log);
+    let room = chance.of(&[0, 100, 600, 40000]);
     let mut length = chance.below(buffer.len() as u64 + 1) as usize;
     if chance.percent(50) {
         length = buffer.len();

@@ -211,8 +211,9 @@ const LENGTH: usize = 300;
 
 pub fn random_script(seed: u64, names: &AllNames) -> RandomScript {
     let mut chance = Chance(seed);
+    let tight = 1074 + chance.below(8) as usize;
     let room = Room {
-        log: chance.of(&[1079, 2500, 8192, 40000, 70000, 70000, 100_000, 100_000]),
+        log: chance.of(&[tight, 2500, 8192, 40000, 70000, 70000, 100_000, 100_000]),
         words: chance.of(&[8, 67, 256, 1024]),
         names: chance.of(&[1, 3, 8, 36]),
     };
