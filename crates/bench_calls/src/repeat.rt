@@ -85,8 +85,7 @@ fn init(c: Coordinator, call: Call, count: usize, names: &[u8], log: &mut [u8]) 
         let made = calls::init(s, log, name, timeout, time);
         let answer = made.answer;
         sum = with_outcome(sum, outcomes::initialized(answer));
-        let state = made.state;
-        s = state;
+        s = made.state;
         i += 1;
     }
     with_coordinator(sum, s)
@@ -106,8 +105,7 @@ fn add(c: Coordinator, call: Call, count: usize, names: &[u8], log: &mut [u8]) -
         let made = calls::add(s, log, name, pid, epoch, call.third, time);
         let answer = made.answer;
         sum = with_done(sum, answer);
-        let state = made.state;
-        s = state;
+        s = made.state;
         i += 1;
     }
     with_coordinator(sum, s)
@@ -127,8 +125,7 @@ fn end(c: Coordinator, call: Call, count: usize, names: &[u8], log: &mut [u8]) -
         let made = calls::end(s, log, name, pid, epoch, call.third, time);
         let answer = made.answer;
         sum = with_done(sum, answer);
-        let state = made.state;
-        s = state;
+        s = made.state;
         i += 1;
     }
     with_coordinator(sum, s)
@@ -144,8 +141,7 @@ fn tick(c: Coordinator, call: Call, count: usize, log: &mut [u8]) -> u64 {
         let made = calls::tick(s, log, time);
         let answer = made.answer;
         sum = with_outcome(sum, outcomes::ticked(answer));
-        let state = made.state;
-        s = state;
+        s = made.state;
         i += 1;
     }
     with_coordinator(sum, s)
@@ -161,8 +157,7 @@ fn flush(c: Coordinator, call: Call, count: usize) -> u64 {
         let made = calls::flush(s, length);
         let answer = made.answer;
         sum = with_done(sum, answer);
-        let state = made.state;
-        s = state;
+        s = made.state;
         i += 1;
     }
     with_coordinator(sum, s)
@@ -196,8 +191,7 @@ fn ack(c: Coordinator, call: Call, count: usize, log: &mut [u8]) -> u64 {
         let made = calls::ack(s, log, place, pid, epoch, position);
         let answer = made.answer;
         sum = with_done(sum, answer);
-        let state = made.state;
-        s = state;
+        s = made.state;
         i += 1;
     }
     with_coordinator(sum, s)
@@ -235,8 +229,7 @@ fn produce(
         );
         let answer = made.answer;
         sum = with_outcome(sum, outcomes::produced(answer));
-        let state = made.state;
-        s = state;
+        s = made.state;
         i += 1;
     }
     with_partition(sum, s)
@@ -256,8 +249,7 @@ fn marker(p: Partition, call: Call, count: usize, words: &mut [u64]) -> u64 {
         let made = calls::marker(s, words, place, pid, epoch, call.fourth, leader);
         let answer = made.answer;
         sum = with_done(sum, answer);
-        let state = made.state;
-        s = state;
+        s = made.state;
         i += 1;
     }
     with_partition(sum, s)
