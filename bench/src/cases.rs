@@ -39,8 +39,8 @@ fn repeated(name: &str, goal: f64, setup: Setup, kind: Kind, count: usize, argum
         let mut lent = Lent { text: TEXT, names: &names, log: &mut log, words: &mut words, out: &mut [] };
         side.repeat(&calls, &call, if full { count } else { 0 }, rounds, &mut lent)
     };
-    let rounds = 512 / count.min(256);
-    Case { name: name.into(), units: count, goal: Some(goal), counted: rounds, timed: 8 * rounds, is_call: true, work: Box::new(work) }
+    let counted = 512 / count.min(256);
+    Case { name: name.into(), units: count, goal: Some(goal), counted, timed: 16384 / count, is_call: true, work: Box::new(work) }
 }
 
 fn opened(name: String, goal: Option<f64>, names: &[Vec<u8>], bytes: usize) -> Case {
