@@ -1,8 +1,4 @@
 // What the benchmark of bench/ calls: functions for a program in Rust, on numbers and slices, that make the calls of document 01 many times.
-mod outcomes;
-mod repeat;
-mod script;
-
 use record::Record;
 use record::Status;
 
@@ -17,7 +13,7 @@ pub extern "C" fn bench_calls_run(
     out: &mut [u64],
     notes: &mut [u64],
 ) -> u64 {
-    let server = script::run(text, names, script, log, words, out, notes);
+    let server = bench_script::run(text, names, script, log, words, out, notes);
     let p = server.partition;
     committed_reader::stable_end(p) as u64
 }
@@ -36,9 +32,9 @@ pub extern "C" fn bench_calls_repeat(
 ) -> u64 {
     let mut out = [0u64; 1];
     let mut notes = [0u64; 1];
-    let server = script::run(text, names, script, log, words, &mut out, &mut notes);
-    let one = script::call_at(call, 0);
-    repeat::repeat(server, one, count, rounds, names, log, words)
+    let server = bench_script::run(text, names, script, log, words, &mut out, &mut notes);
+    let one = bench_script::call_at(call, 0);
+    bench_repeat::repeat(server, one, count, rounds, names, log, words)
 }
 
 // Opens a log so many times.
@@ -105,7 +101,7 @@ pub extern "C" fn bench_calls_read(
     let mut sum: u64 = 0;
     let mut k: usize = 0;
     while k < rounds {
-        let told = outcomes::copied(calls::read(p, words, 0, out));
+        let told = bench_answers::copied(calls::read(p, words, 0, out));
         sum = std::num::wrapping_add_u64(sum, told.number);
         sum = std::num::wrapping_add_u64(sum, told.results[0]);
         sum = std::num::wrapping_add_u64(sum, told.results[1]);

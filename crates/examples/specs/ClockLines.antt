@@ -3,8 +3,8 @@ use mathlib.Core.List.{List, [], _∷_, _++_}
 use lib.IntN.{pos, negsuc}
 use Rattle.coordinator.specs.Calls.{initCall, addCall, endCall, tickCall}
 use Rattle.server.specs.Calls.{call, orderCall, readCall}
-use Rattle.server.specs.Lines.{Line, line, rig7, opened, begins, put}
-use Rattle.examples.specs.Starts.{reopened, mark, ack7, holds7, prepares, completes, preparesTwo, lab3, initAt, addAt, endAt, tickAt, flushed}
+use Rattle.server.specs.Lines.{Line, line, rig7, opened, begins, put, lab3}
+use Rattle.examples.specs.Starts.{reopened, mark, ack7, holds7, prepares, completes, preparesTwo, initAt, addAt, endAt, tickAt, flushed}
 use Rattle.examples.specs.Held.{HeldLine, held7}
 
 abbrev pub clockHeld : List HeldLine

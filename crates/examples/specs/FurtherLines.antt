@@ -6,8 +6,8 @@ use Rattle.record.specs.declared.Status.the-variants.{Empty, Begin, PrepareComm
 use Rattle.partition.specs.Partition.{noProducer}
 use Rattle.coordinator.specs.Calls.{initCall, addCall, endCall, tickCall, flushCall, ackCall}
 use Rattle.server.specs.Calls.{openLog, openWords, call, orderCall, produceCall, markerCall, readCall}
-use Rattle.server.specs.Lines.{Line, line, writes, reads, catalogueText, rig7, opened, init7, join, begins, put}
-use Rattle.examples.specs.Starts.{reopened, add7, end7, putAt, putNext, mark, ack7, holds7, prepares, completes, preparesTwo, lab3, init3, add3, end3, put3, mark3, holdsBoth, beginsBoth, preparesBoth, record7, recordFor, rigTable, closedProducer, openProducer, from, empty7, begin7, opens}
+use Rattle.server.specs.Lines.{Line, line, writes, reads, catalogueText, rig7, opened, init7, join, begins, put, lab3}
+use Rattle.examples.specs.Starts.{reopened, add7, end7, putAt, putNext, mark, ack7, holds7, prepares, completes, preparesTwo, init3, add3, end3, put3, mark3, holdsBoth, beginsBoth, preparesBoth, record7, recordFor, rigTable, closedProducer, openProducer, from, empty7, begin7, opens}
 
 -- document 01, Readings that tempt
 abbrev pub temptingLines : List Line

@@ -6,8 +6,8 @@ use Rattle.record.specs.declared.Status.the-variants.{Empty, CompleteAbort}
 use Rattle.partition.specs.Partition.{noProducer}
 use Rattle.coordinator.specs.Calls.{initCall, addCall, endCall, ackCall}
 use Rattle.server.specs.Calls.{Call, openLog, openWords, call, orderCall, produceCall, markerCall, readCall}
-use Rattle.server.specs.Lines.{Line, line, lineFrom, writes, reads, catalogueText, rig7, opened, init7, join}
-use Rattle.examples.specs.Starts.{reopened, end7, ack7, holds7, holdsBoth, beginsBoth, lab3, init3, init2, tickAt, flushed, record7, recordFor, rigTable, from, empty7, lentLog}
+use Rattle.server.specs.Lines.{Line, line, lineFrom, writes, reads, catalogueText, rig7, opened, init7, join, lab3}
+use Rattle.examples.specs.Starts.{reopened, end7, ack7, holds7, holdsBoth, beginsBoth, init3, init2, tickAt, flushed, record7, recordFor, rigTable, from, empty7, lentLog}
 
 -- the first pid is 0: `rig7` has it, in EMPTY, flushed
 abbrev pub holdsZero : List Call

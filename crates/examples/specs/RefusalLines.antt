@@ -11,8 +11,8 @@ use Rattle.table.specs.Table.{emptyTable}
 use Rattle.partition.specs.Partition.{noProducer}
 use Rattle.coordinator.specs.Calls.{initCall, addCall, endCall, tickCall, flushCall, ackCall}
 use Rattle.server.specs.Calls.{Call, openLog, openWords, call, orderCall, produceCall, markerCall, readCall}
-use Rattle.server.specs.Lines.{Line, line, lineFrom, reads, catalogueText, rig7, opened, init7, join, begins, put}
-use Rattle.examples.specs.Starts.{reopened, add7, end7, putAt, putNext, mark, ack7, holds7, prepares, completes, lab3, init3, put3, holdsBoth, beginsBoth, record7, recordFor, rigTable, fullTable, closedProducer, openProducer, from, tight, partitionAlone, lending, empty7, begin7, emptyRecords, lentLog, opens}
+use Rattle.server.specs.Lines.{Line, line, lineFrom, reads, catalogueText, rig7, opened, init7, join, begins, put, lab3}
+use Rattle.examples.specs.Starts.{reopened, add7, end7, putAt, putNext, mark, ack7, holds7, prepares, completes, init3, put3, holdsBoth, beginsBoth, record7, recordFor, rigTable, fullTable, closedProducer, openProducer, from, tight, partitionAlone, lending, empty7, begin7, emptyRecords, lentLog, opens}
 
 -- "scan 9", "scan 0", and "scan" twice, as texts
 abbrev pub ninePartitions : List ℕ

@@ -22,7 +22,7 @@ use Rattle.partition.specs.declared.Partition.{Partition}
 use Rattle.partition.specs.declared.Producer.{Producer}
 use Rattle.coordinator.specs.Calls.{initCall, addCall, endCall, tickCall, flushCall, ackCall}
 use Rattle.server.specs.Calls.{Server, Call, openLog, openWords, call, produceCall, markerCall}
-use Rattle.server.specs.Lines.{Line, lineFrom, catalogueText, rig7, opened, init7, join, begins, put}
+use Rattle.server.specs.Lines.{Line, lineFrom, catalogueText, rig7, opened, init7, join, begins, put, lab3}
 
 -- ---- calls of `rig7`, which comes first and has place 0 and pid 1000
 
@@ -89,9 +89,6 @@ abbrev pub flushed : ℕ → Call
 flushed n = call (flushCall n)
 
 -- ---- calls of `lab3`, which comes second and has place 1 and pid 1001
-
-abbrev pub lab3 : List ℕ
-lab3 = ascii "lab3"
 
 abbrev pub init3 : Call
 init3 = call (initCall lab3 (pos 50) (pos 100))

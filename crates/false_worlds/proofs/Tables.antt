@@ -1,13 +1,10 @@
 -- On these tables, logs and records the clauses of demand 2 are false.
 use Prim.Native.Nat.{_+_}
 use mathlib.Core.Path.{_≡_, refl, ap}
-use mathlib.Core.Bool.{Bool, not}
 use mathlib.Core.List.{[], _∷_, _++_, map}
-use lib.Dec.{eqb}
 use lib.IntN.{pos}
-use lib.ListN.{length, take, replicate}
+use lib.ListN.{length, replicate}
 use borrow.Author.Tests.{leb-true}
-use lib.Count.{trailingZeros}
 use lib.Count.{ones}
 use Rattle.numbers.specs.Bytes.{overwrite, same}
 use Rattle.numbers.specs.Integers.{bigEndian, integerBytes}
@@ -19,28 +16,27 @@ use Rattle.numbers.specs.Integers.{integerOf, numberFrom}
 use Rattle.record.specs.Record.{nameBytes, nameFits, validName, joinedFits, startFits, fieldsFit, wellFormed}
 use Rattle.record.specs.Topics.{withPartition, partitionsBelow, partitionsOf, partitionsAt, nameStands, topicAt, past, walk}
 use Rattle.record.specs.Reading.{candidate, judged, readFrame}
-use Rattle.record.specs.Reading.{whole}
 use Rattle.record.specs.declared.FrameAt.{FrameAt}
 use Rattle.row.specs.Row.{isBegin}
 use Rattle.row.specs.declared.Row.{Row}
-use Rattle.search.specs.Search.{firstWhere, countWhere, sumOf, find}
+use Rattle.search.specs.Search.{firstWhere, sumOf, find}
 use Rattle.answers.specs.Answers.{openReply}
 use Rattle.answers.specs.Refusals.{firstRefusal}
-use Rattle.answers.specs.declared.OpenAnswer.the-variants.{Opened}
 use Rattle.table.specs.Next.{mayCome}
-use Rattle.table.specs.Table.{placeOf, reserved, rowAt}
+use Rattle.table.specs.Table.{placeOf, reserved}
 use Rattle.log_reader.specs.Read.{readTests}
-use Rattle.log_reader.specs.Records.{framesOf, tableOf, wholeIn}
+use Rattle.log_reader.specs.Records.{framesOf}
 use Rattle.log_reader.specs.Scan.{isWhole, scan}
 use Rattle.coordinator.specs.Coordinator.{admits}
-use Rattle.coordinator.specs.Open.{takeOverTests, openTests, opening, takenOver}
+use Rattle.coordinator.specs.Open.{takeOverTests, openTests, opening}
 use Rattle.coordinator.specs.declared.OpenedLog.{OpenedLog}
 use Rattle.writable_logs.specs.RecordsSay.{hasName, namesOf, reserveOf, greatestUpdate, pidsAbove, PlacesByAppearance, NumbersOf}
 use Rattle.writable_logs.specs.Writer.{CouldWrite}
 use Rattle.writable_logs.specs.Demand2.{Openable, InOrder, StartsWith, HoldsLatest, HoldsNoOther, ReadsBack, OpensAgain, TableSays}
-use Rattle.false_worlds.specs.Made.{scanText, name7}
-use Rattle.false_worlds.specs.Tables.{scans, lab3, name3, empty7, begin7, bothRecords, Misplaced, swapped, fromTheEnd, placeTwice, placeLeftOut, misplaced, Misnumbered, pidGivenAgain, oldUpdate, tornEnd, misnumbered, begunRecords, NotLatest, firstRecord, otherLogEnd, takenAsAcknowledged, notHeld, notLatest, inventedName, Unreadable, timeoutZero, startInEmpty, setInEmpty, negativePid, longSet, unreadable, NotOpenable, otherBytes, badRest, wholeRest, bytesOf, restOf, recordsIn, OutOfOrder, noCatalogue, lengthPast, negativeEpoch, negativeFirst, lastBelowFirst, outOfOrder, ShutOut, writtenBad, otherSlice, ownSlice, shutOut, Say, Saying, sayings}
-use Rattle.false_worlds.proofs.Differ.{apart, differ, differ-lists, fails, passes, above}
+use Rattle.server.specs.Lines.{scanText, lab3}
+use Rattle.false_worlds.specs.Made.{name7}
+use Rattle.false_worlds.specs.Tables.{scans, name3, empty7, begin7, bothRecords, Misplaced, swapped, fromTheEnd, placeTwice, placeLeftOut, misplaced, Misnumbered, pidGivenAgain, oldUpdate, tornEnd, misnumbered, begunRecords, NotLatest, firstRecord, otherLogEnd, takenAsAcknowledged, notHeld, notLatest, inventedName, Unreadable, timeoutZero, startInEmpty, setInEmpty, negativePid, longSet, unreadable, NotOpenable, otherBytes, badRest, wholeRest, bytesOf, restOf, recordsIn, OutOfOrder, noCatalogue, lengthPast, negativeEpoch, negativeFirst, lastBelowFirst, outOfOrder, ShutOut, writtenBad, otherSlice, ownSlice, shutOut, Saying, sayings}
+use Rattle.false_worlds.proofs.Differ.{differ, differ-lists, fails, passes, above}
 
 pub not-by-appearance : (x : Misplaced) → PlacesByAppearance bothRecords (misplaced x) → ⊥
 unfolding hasName namesOf same

@@ -31,7 +31,7 @@ use Rattle.writable_logs.specs.Writer.{CouldWrite}
 use Rattle.writable_logs.specs.Demand2.{Openable, InOrder, FirstBad}
 use Rattle.writable_logs.proofs.CouldWrite.{could-write}
 use Rattle.writable_logs.proofs.Demand2.{could-come, demand-2}
-use Rattle.false_worlds.specs.Made.{scanText}
+use Rattle.server.specs.Lines.{scanText}
 use Rattle.false_worlds.specs.Progress.{beginLog}
 use Rattle.false_worlds.specs.Tables.{scans}
 use Rattle.false_worlds.specs.Unwritten.{begins7, OutOfTurn, beginFirst, notPrepared, otherVerdict, otherSet, sameAgain, pidOfAnother, updateFalls, outOfTurn, badSecond, OtherOffset, frameBefore, madeUp, frameBehind, logsEnd, offsetOf}

@@ -4,7 +4,6 @@ use mathlib.Core.Bool.{cond}
 use mathlib.Core.List.{List, [], _∷_}
 use lib.ListN.{length}
 use lib.IntN.{pos, negsuc}
-use Rattle.numbers.specs.Ascii.{ascii}
 use Rattle.numbers.specs.Padded.{padded}
 use Rattle.record.specs.Limits.{nameMax}
 use Rattle.record.specs.Record.{idle}
@@ -16,13 +15,9 @@ use Rattle.row.specs.declared.Row.{Row}
 use Rattle.coordinator.specs.Open.{blankState}
 use Rattle.coordinator.specs.declared.Coordinator.{Coordinator}
 use Rattle.partition.specs.declared.Producer.{Producer}
-use Rattle.server.specs.Lines.{rig7}
+use Rattle.server.specs.Lines.{rig7, scanText}
 use Rattle.runs.specs.History.{Order, Produced, recordAppended, logFlushed, logOpened, History, Logged}
 use Rattle.runs.specs.World.{Leader, World, Phase, up, Carrying, nothing}
-
--- `scan` with two partitions
-abbrev pub scanText : List ℕ
-scanText = ascii "scan\t2\n"
 
 abbrev pub name7 : List ℕ
 name7 = padded nameMax rig7

@@ -1,6 +1,6 @@
 -- Worlds without progress: no order is given over a flushed prepare, what is carried is refused, a prepare does not complete, or no opening is accepted.
 use Prim.Native.Nat.{ℕ}
-use mathlib.Core.Bool.{true, false}
+use mathlib.Core.Bool.{false}
 use mathlib.Core.List.{List, [], _∷_, _++_}
 use lib.IntN.{pos}
 use lib.ListN.{replicate}
@@ -11,10 +11,10 @@ use Rattle.log_reader.specs.Records.{framesOf}
 use Rattle.coordinator.specs.Calls.{initCall}
 use Rattle.coordinator.specs.Open.{blankState}
 use Rattle.partition.specs.declared.Producer.{Producer}
-use Rattle.server.specs.Lines.{rig7}
+use Rattle.server.specs.Lines.{rig7, scanText}
 use Rattle.runs.specs.History.{recordAppended, orderCarried}
-use Rattle.runs.specs.World.{Phase, up, down, Carrying, nothing, toDeliver, toAcknowledge, World, own, another, Item, call, callOrder, callProduce, callRead, deliver, acknowledge, cut, reopen}
-use Rattle.false_worlds.specs.Made.{scanText, recordAt, recordOf7, committing, then, order7, state, rowIn, leaderOf, worldOf}
+use Rattle.runs.specs.World.{up, down, nothing, toDeliver, toAcknowledge, World, own, another, Item, call, callOrder, callProduce, callRead, deliver, acknowledge, cut, reopen}
+use Rattle.false_worlds.specs.Made.{recordAt, recordOf7, committing, then, order7, state, rowIn, leaderOf, worldOf}
 
 pub data NoOrder : Type 0 where
   -- an Order that says none over a flushed prepare, because the table does not have it, takes it for unflushed, or for acknowledged

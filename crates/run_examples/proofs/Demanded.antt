@@ -1,11 +1,12 @@
 -- What the demands, taken as premises, say of the example: a demand whose statement is emptied, or has a premise that the example does not meet, fails here.
 use Prim.Native.Nat.{ℕ}
-use mathlib.Core.List.{List, [], _∷_, _++_}
+use mathlib.Core.List.{List, [], _∷_}
 use lib.IntN.{pos}
 use lib.ListN.{take}
 use Rattle.coordinator.specs.declared.Coordinator.{Coordinator}
 use Rattle.writable_logs.specs.Demand2.{Demand2, InOrder, Openable}
 use Rattle.writable_logs.specs.Writer.{openingReply}
+use Rattle.server.specs.Lines.{scanText}
 use Rattle.runs.specs.World.{Accepted, start, up, Item, cut}
 use Rattle.runs.specs.Completing.{Completing, carryEach, ordersLeft, AllCompleted}
 use Rattle.runs.specs.Demand3.{Demand3, Promised}
@@ -46,7 +47,7 @@ use Rattle.server.specs.Produce.{produceRowTests, produceTests, produce}
 use Rattle.log_reader.specs.Records.{framesOf}
 use Rattle.runs.specs.History.{collect, collectWithBefore, endingBy, recordsOf, flushedOf, wordsOf}
 use Rattle.runs.specs.World.{openLeaders, run, recordsRead}
-use Rattle.run_examples.specs.Runs.{scanText, lengthLeft, opened, shared, straight, afterCut, afterShared, openedLater, leftRecords, leftRest}
+use Rattle.run_examples.specs.Runs.{lengthLeft, opened, shared, straight, afterCut, afterShared, openedLater, leftRecords, leftRest}
 use Rattle.run_examples.specs.Examples.{cutRunItems}
 
 -- the first openings are accepted

@@ -15,13 +15,14 @@ use Rattle.catalogue.specs.Catalogue.{parse}
 use Rattle.answers.specs.Answers.{openReply}
 use Rattle.coordinator.specs.Coordinator.{logEnd}
 use Rattle.log_reader.specs.Records.{framesOf}
+use Rattle.server.specs.Lines.{scanText}
 use Rattle.runs.specs.History.{flushedPrepares}
 use Rattle.runs.specs.World.{World, leaderAt, Item, cut, run}
 use Rattle.writable_logs.specs.Demand2.{Openable}
 use Rattle.runs.specs.Demand3.{Kept, Promised}
 use Rattle.runs.specs.InEveryRun.{ReadsFrom}
 use Rattle.run_examples.specs.Checks.{kept, completesInTime, holdsAt}
-use Rattle.run_examples.specs.Runs.{scanText, buffer, lengthLeft, straight, afterShared, writerItems, leftRecords, leftRest}
+use Rattle.run_examples.specs.Runs.{buffer, lengthLeft, straight, afterShared, writerItems, leftRecords, leftRest}
 use Rattle.run_examples.specs.Examples.{holds, promised, straightRun, cutInsideFrame, cutRun, couldHaveWritten, readsCommitted, cutRunItems, writerOpening, writerEnd}
 use Rattle.run_examples.proofs.Evaluated.{examples-hold}
 use Rattle.run_examples.proofs.Sound.{kept-true, in-time-true, holds-true, reads-true}

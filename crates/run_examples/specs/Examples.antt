@@ -15,12 +15,13 @@ use Rattle.coordinator.specs.Coordinator.{logEnd}
 use Rattle.coordinator.specs.Open.{opening}
 use Rattle.coordinator.specs.declared.OpenedLog.{OpenedLog}
 use Rattle.log_reader.specs.Records.{framesOf}
+use Rattle.server.specs.Lines.{scanText}
 use Rattle.runs.specs.History.{Order, Logged, collect, carriedIn, markersIn, flushedPrepares, pendingPrepares, completedPrepares, transaction}
 use Rattle.runs.specs.World.{World, start, leaderAt, own, Item, callOrder, deliver, cut, run}
 use Rattle.coordinator.specs.Calls.{Writer}
 use Rattle.writable_logs.specs.Writer.{writes}
 use Rattle.run_examples.specs.Checks.{kept, completesInTime, forFlushedPrepare, underItsVerdict, holdsAt, readsFrom}
-use Rattle.run_examples.specs.Runs.{scanText, buffer, lengthLeft, opened, both, carry, reopening, prepared, straight, afterCut, afterShared, orderedEarly, flushedShort, flushedPast, restarted, restartedCarried, completeLost, completeLostCarried, widenedEarly, tickedLate, ticked, tickedCarried, someDown, allDown, sameEpoch, sameEpochCarried, twoPrepared, twoCarried, carriedLate, carriedTwice, acknowledgedOnly, openedLater, lentOthers, writerItems, leftRecords, leftRest}
+use Rattle.run_examples.specs.Runs.{buffer, lengthLeft, opened, both, carry, reopening, prepared, straight, afterCut, afterShared, orderedEarly, flushedShort, flushedPast, restarted, restartedCarried, completeLost, completeLostCarried, widenedEarly, tickedLate, ticked, tickedCarried, someDown, allDown, sameEpoch, sameEpochCarried, twoPrepared, twoCarried, carriedLate, carriedTwice, acknowledgedOnly, openedLater, lentOthers, writerItems, leftRecords, leftRest}
 
 pub data Example : Type 0 where
   -- one of two acknowledgements is there

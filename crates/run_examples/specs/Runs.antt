@@ -3,21 +3,12 @@ use Prim.Native.Nat.{ℕ}
 use mathlib.Core.List.{List, [], _∷_, _++_, map}
 use lib.IntN.{pos}
 use lib.ListN.{take, drop, replicate}
-use Rattle.numbers.specs.Ascii.{ascii}
 use Rattle.record.specs.declared.Record.{Record}
-use Rattle.server.specs.Lines.{rig7}
+use Rattle.server.specs.Lines.{rig7, scanText, lab3}
 use Rattle.runs.specs.History.{recordsOf, contents}
 use Rattle.coordinator.specs.Calls.{initCall, addCall, endCall, tickCall, flushCall}
 use Rattle.runs.specs.World.{World, FirstOpening, start, own, another, Item, call, callOrder, callProduce, callRead, deliver, acknowledge, cut, reopen, run}
 use Rattle.writable_logs.specs.Writer.{WriterItem, call as byWriter}
-
--- `scan` with two partitions
-abbrev pub scanText : List ℕ
-scanText = ascii "scan\t2\n"
-
--- the name `lab3`
-abbrev pub lab3 : List ℕ
-lab3 = ascii "lab3"
 
 -- a log buffer
 abbrev pub buffer : List ℕ

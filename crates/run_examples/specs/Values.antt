@@ -1,19 +1,18 @@
 -- What the history's definitions say of example runs: two transactions of one name, two names, a prepare that is not flushed, and orders given again after a cut.
 use Prim.Native.Nat.{ℕ, _+_, _≤_}
 use mathlib.Core.Path.{_≡_}
-use mathlib.Core.Bool.{Bool, true}
+use mathlib.Core.Bool.{true}
 use mathlib.Core.List.{List, [], _∷_, _++_, map}
 use mathlib.Core.Option.{Option, none, some}
-use lib.IntN.{ℤ, pos}
+use lib.IntN.{pos}
 use Rattle.numbers.specs.Signed.{toNat}
 use Rattle.search.specs.Search.{filter, Each}
 use Rattle.server.specs.Lines.{rig7}
-use Rattle.coordinator.specs.Calls.{initCall, endCall}
-use Rattle.runs.specs.History.{Order, Produced, givenIn, markersIn, carriedIn, collect, WithBefore, numberOf, History, Logged, recordsOf, flushedOf, epochOpened, isFlushed, nextOf, isPrepare, flushedPrepares, listed, isCompleted, completedPrepares, pendingPrepares, transaction, markerOver, carriedFor, markersFor}
+use Rattle.coordinator.specs.Calls.{endCall}
+use Rattle.runs.specs.History.{Order, Produced, givenIn, markersIn, collect, WithBefore, numberOf, History, Logged, recordsOf, isFlushed, nextOf, isPrepare, flushedPrepares, listed, isCompleted, completedPrepares, pendingPrepares, transaction, markerOver, carriedFor, markersFor}
 use Rattle.runs.specs.World.{World, catalogueOf, own, Item, call, callOrder, callProduce, deliver, cut, run}
 use Rattle.runs.specs.Demand3.{Undisturbed}
-use Rattle.run_examples.specs.Runs.{lab3, both, join, put, ending, flushing, carry, reopening, initialized, beginning, prepared, completeLost, completeLostCarried, twoPrepared, twoCarried, flushedShort, ticked, tickedCarried}
-use Rattle.run_examples.specs.Examples.{after}
+use Rattle.run_examples.specs.Runs.{join, ending, flushing, carry, beginning, prepared, completeLost, completeLostCarried, twoPrepared, twoCarried}
 
 -- ---- the runs
 

@@ -22,9 +22,16 @@ use Rattle.server.specs.Calls.{Server, Call, openLog, openWords, call, p
 abbrev pub catalogueText : List ℕ
 catalogueText = ascii "scan\t2\ncert\t1\n"
 
--- "name `rig7`"
+-- a catalogue of `scan` alone
+abbrev pub scanText : List ℕ
+scanText = ascii "scan\t2\n"
+
+-- "name `rig7`", and a second name
 abbrev pub rig7 : List ℕ
 rig7 = ascii "rig7"
+
+abbrev pub lab3 : List ℕ
+lab3 = ascii "lab3"
 
 -- before any call: a log buffer and a partition slice of these lengths, and a slice of one word to read into
 abbrev pub lent : ℕ → ℕ → Server
