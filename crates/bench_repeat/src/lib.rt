@@ -1,8 +1,8 @@
 // One call made many times, from a given state on: with the 32 names, pids and places in turn, or with times and lengths that rise by one. Each function answers a sum of what was answered.
 use answers::Answer;
 use bench_answers::Outcome;
-use bench_script::Call;
-use bench_script::Server;
+use bench_made::Call;
+use bench_made::Server;
 use coordinator::Coordinator;
 use partition::Partition;
 ghost use Prim.Native.Nat.{_≤_};
@@ -44,7 +44,7 @@ fn plus(x: u64, i: usize) -> usize {
 
 // A signed number of a call that is higher by an index.
 fn signed_plus(x: u64, i: usize) -> i64 {
-    bench_script::signed_64(std::num::wrapping_add_u64(x, i as u64))
+    bench_made::signed_64(std::num::wrapping_add_u64(x, i as u64))
 }
 
 fn lesser(a: usize, b: usize) -> usize
@@ -72,8 +72,8 @@ fn name_at(names: &[u8], i: usize, length: usize) -> &[u8] {
 
 // Init of one name after the other.
 fn init(c: Coordinator, call: Call, count: usize, names: &[u8], log: &mut [u8]) -> u64 {
-    let timeout = bench_script::signed_32(call.first);
-    let time = bench_script::signed_64(call.second);
+    let timeout = bench_made::signed_32(call.first);
+    let time = bench_made::signed_64(call.second);
     let mut s = c;
     let mut sum: u64 = 0;
     let mut i: usize = 0;
@@ -91,8 +91,8 @@ fn init(c: Coordinator, call: Call, count: usize, names: &[u8], log: &mut [u8]) 
 
 // Add of one name after the other.
 fn add(c: Coordinator, call: Call, count: usize, names: &[u8], log: &mut [u8]) -> u64 {
-    let epoch = bench_script::signed_16(call.second);
-    let time = bench_script::signed_64(call.fourth);
+    let epoch = bench_made::signed_16(call.second);
+    let time = bench_made::signed_64(call.fourth);
     let mut s = c;
     let mut sum: u64 = 0;
     let mut i: usize = 0;
@@ -111,8 +111,8 @@ fn add(c: Coordinator, call: Call, count: usize, names: &[u8], log: &mut [u8]) -
 
 // End of one name after the other.
 fn end(c: Coordinator, call: Call, count: usize, names: &[u8], log: &mut [u8]) -> u64 {
-    let epoch = bench_script::signed_16(call.second);
-    let time = bench_script::signed_64(call.fourth);
+    let epoch = bench_made::signed_16(call.second);
+    let time = bench_made::signed_64(call.fourth);
     let mut s = c;
     let mut sum: u64 = 0;
     let mut i: usize = 0;
@@ -177,7 +177,7 @@ fn order(c: Coordinator, call: Call, count: usize) -> u64 {
 
 // Ack of one place after the other.
 fn ack(c: Coordinator, call: Call, count: usize, log: &mut [u8]) -> u64 {
-    let epoch = bench_script::signed_16(call.third);
+    let epoch = bench_made::signed_16(call.third);
     let position = call.fourth as usize;
     let mut s = c;
     let mut sum: u64 = 0;
@@ -204,9 +204,9 @@ fn produce(
     names: &[u8],
     words: &mut [u64],
 ) -> u64 {
-    let epoch = bench_script::signed_16(call.second);
+    let epoch = bench_made::signed_16(call.second);
     let position = call.third as usize;
-    let sequence = bench_script::signed_32(call.fourth);
+    let sequence = bench_made::signed_32(call.fourth);
     let mut s = p;
     let mut sum: u64 = 0;
     let mut i: usize = 0;
@@ -235,8 +235,8 @@ fn produce(
 
 // Marker of one place after the other.
 fn marker(p: Partition, call: Call, count: usize, words: &mut [u64]) -> u64 {
-    let epoch = bench_script::signed_16(call.third);
-    let leader = bench_script::signed_32(call.fifth);
+    let epoch = bench_made::signed_16(call.third);
+    let leader = bench_made::signed_32(call.fifth);
     let mut s = p;
     let mut sum: u64 = 0;
     let mut i: usize = 0;
