@@ -1,6 +1,6 @@
 // Sets of positions 0 to 63, held in a u64.
 ghost use mathlib.Core.Path.{_≡_};
-ghost use Rattle.bits.specs.Bits.{member, insert, union, intersection, difference, subset, lowest, count};
+ghost use Rattle.bits.specs.Bits.{member, insert, intersection, difference, subset, lowest, count};
 
 // Whether p is a member; a position above 63 never is.
 pub fn member(x: u64, p: usize) -> bool
@@ -14,13 +14,6 @@ pub fn insert(x: u64, p: usize) -> u64
     ensures { λ r. ⌜ r ≡ insert x p ⌝ }
 {
     if p < 64 { x | (1u64 << p) } else { x }
-}
-
-// The members of either set.
-pub fn union(a: u64, b: u64) -> u64
-    ensures { λ r. ⌜ r ≡ union a b ⌝ }
-{
-    a | b
 }
 
 // The members of both sets.

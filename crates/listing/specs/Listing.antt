@@ -4,23 +4,11 @@ use mathlib.Core.Bool.{cond}
 use mathlib.Core.List.{List, [], _∷_, map}
 use lib.Dec.{ltb}
 use lib.ListN.{length, take}
-use mir.Syntax.{w64}
 use Rattle.numbers.specs.Bytes.{overwrite}
-use Rattle.numbers.specs.Signed.{signedOf}
 use Rattle.numbers.specs.Ascii.{ascii}
 use Rattle.text.specs.Decimal.{decimal, signedDecimal}
 use Rattle.text.specs.Lines.{line}
 use Rattle.command.specs.Words.{wordAt}
-use Rattle.answers.specs.declared.Answer.{Answer}
-use Rattle.answers.specs.declared.Answer.the-variants.{Done, Refused}
-use Rattle.answers.specs.declared.InitAnswer.{InitAnswer}
-use Rattle.answers.specs.declared.InitAnswer.the-variants.{Given, Aborting, Refused as InitRefused}
-use Rattle.answers.specs.declared.TickAnswer.{TickAnswer}
-use Rattle.answers.specs.declared.TickAnswer.the-variants.{Aborted, NoneDue, Refused as TickRefused}
-use Rattle.answers.specs.declared.ProduceAnswer.{ProduceAnswer}
-use Rattle.answers.specs.declared.ProduceAnswer.the-variants.{Written, Refused as ProduceRefused}
-use Rattle.answers.specs.declared.ReadAnswer.{ReadAnswer}
-use Rattle.answers.specs.declared.ReadAnswer.the-variants.{Copied, Refused as ReadRefused}
 use Rattle.listing.specs.Limits.{lineMax}
 use Rattle.listing.specs.declared.Results.{Results}
 use Rattle.listing.specs.declared.Results.the-variants.{Empty, Absent, One, Two, Three, Payloads}
@@ -73,37 +61,3 @@ renderBytes row reply log flushed payloads out at =
 abbrev pub Within : Rendered → ℕ → Type 0
 Within (Next next) n = next ≤ n
 Within NoRoom n = Unit {0}
-
--- ---- the replies to the calls: "A refused call has no results."
-
-abbrev pub accepted : Results → Reply
-accepted results = Answered 0 results
-
-abbrev pub refused : ℕ → Reply
-refused number = Answered number Empty
-
-abbrev pub answerShown : Answer → Reply
-answerShown Done = accepted Empty
-answerShown (Refused number) = refused number
-
--- "init: pid, epoch, or `-` for ABORTING"
-abbrev pub initShown : InitAnswer → Reply
-initShown (Given pid epoch) = accepted (Two pid epoch)
-initShown Aborting = accepted Absent
-initShown (InitRefused number) = refused number
-
--- the place, or `-` if none was due
-abbrev pub tickShown : TickAnswer → Reply
-tickShown (Aborted place) = accepted (One (signedOf w64 place))
-tickShown NoneDue = accepted Absent
-tickShown (TickRefused number) = refused number
-
--- "put: offset"
-abbrev pub produceShown : ProduceAnswer → Reply
-produceShown (Written offset) = accepted (One (signedOf w64 offset))
-produceShown (ProduceRefused number) = refused number
-
--- "read: payloads"
-abbrev pub readShown : ReadAnswer → Reply
-readShown (Copied count next) = accepted (Payloads count)
-readShown (ReadRefused number) = refused number

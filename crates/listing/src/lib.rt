@@ -1,9 +1,4 @@
 // The answer lines of document 01's listing, written into a lent buffer.
-use answers::Answer;
-use answers::InitAnswer;
-use answers::ProduceAnswer;
-use answers::ReadAnswer;
-use answers::TickAnswer;
 ghost use mathlib.Core.Path.{_≡_};
 ghost use Prim.Native.Nat.{_+_, _*_, _≤_};
 ghost use mathlib.Core.List.{map, [], _∷_};
@@ -13,7 +8,7 @@ ghost use Rattle.text.specs.Lines.{field, fields, Wrote};
 ghost use Rattle.command.specs.Limits.{wordMax};
 ghost use Rattle.command.specs.Words.{wordAt};
 ghost use Rattle.listing.specs.Limits.{fieldMax, resultsMax, lineMax};
-ghost use Rattle.listing.specs.Listing.{numberField, resultsOf, payloadFields, resultFields, replyLine, renderAnswer, renderBytes, Within, answerShown, initShown, tickShown, produceShown, readShown};
+ghost use Rattle.listing.specs.Listing.{numberField, resultsOf, payloadFields, resultFields, replyLine, renderAnswer, renderBytes, Within};
 
 // The limits of specs/Limits.antt, under the same names.
 pub const FIELD_MAX: usize = 1 + text::DIGITS_MAX;
@@ -198,90 +193,4 @@ pub fn render(
         return Rendered::NoRoom;
     }
     Rendered::Next(write_line(out, at, row, reply, log, flushed, payloads))
-}
-
-// ---- The replies to the calls.
-
-// Add, End, Flush and a cut.
-pub fn answer_reply(answer: Answer) -> Reply
-    ensures { λ r. ⌜ r ≡ answerShown answer ⌝ }
-{
-    match answer {
-        Answer::Done => Reply::Answered {
-            number: 0,
-            results: Results::Empty,
-        },
-        Answer::Refused(number) => Reply::Answered {
-            number,
-            results: Results::Empty,
-        },
-    }
-}
-
-pub fn init_reply(answer: InitAnswer) -> Reply
-    ensures { λ r. ⌜ r ≡ initShown answer ⌝ }
-{
-    match answer {
-        InitAnswer::Given(pid, epoch) => Reply::Answered {
-            number: 0,
-            results: Results::Two(pid, epoch as i64),
-        },
-        InitAnswer::Aborting => Reply::Answered {
-            number: 0,
-            results: Results::Absent,
-        },
-        InitAnswer::Refused(number) => Reply::Answered {
-            number,
-            results: Results::Empty,
-        },
-    }
-}
-
-pub fn tick_reply(answer: TickAnswer) -> Reply
-    ensures { λ r. ⌜ r ≡ tickShown answer ⌝ }
-{
-    match answer {
-        TickAnswer::Aborted(place) => Reply::Answered {
-            number: 0,
-            results: Results::One(numbers::signed_i64(place as u64)),
-        },
-        TickAnswer::NoneDue => Reply::Answered {
-            number: 0,
-            results: Results::Absent,
-        },
-        TickAnswer::Refused(number) => Reply::Answered {
-            number,
-            results: Results::Empty,
-        },
-    }
-}
-
-pub fn produce_reply(answer: ProduceAnswer) -> Reply
-    ensures { λ r. ⌜ r ≡ produceShown answer ⌝ }
-{
-    match answer {
-        ProduceAnswer::Written(offset) => Reply::Answered {
-            number: 0,
-            results: Results::One(numbers::signed_i64(offset as u64)),
-        },
-        ProduceAnswer::Refused(number) => Reply::Answered {
-            number,
-            results: Results::Empty,
-        },
-    }
-}
-
-pub fn read_reply(answer: ReadAnswer) -> Reply
-    ensures { λ r. ⌜ r ≡ readShown answer ⌝ }
-{
-    match answer {
-        ReadAnswer::Copied(count, _) => Reply::Answered {
-            number: 0,
-            results: Results::Payloads(count),
-        },
-        ReadAnswer::Refused(number) => Reply::Answered {
-            number,
-            results: Results::Empty,
-        },
-    }
 }

@@ -11,10 +11,10 @@ use Rattle.fields.specs.Fields.{part, fieldsFrom, fieldsOf}
 use Rattle.fields.specs.Numbers.{naturalOf, integerOf}
 use Rattle.command.specs.Command.{initOf, addOf, endOf, tickOf, flushOf, putOf, carryOf, readOf, cutOf, commandAt, commandOf}
 use Rattle.command.specs.declared.Command.the-variants.{Init, Add, End, Tick, Flush, Put, Carry, Read, Cut, Unknown}
-use Rattle.listing.specs.Listing.{accepted, refused, replyLine}
+use Rattle.listing.specs.Listing.{replyLine}
 use Rattle.listing.specs.declared.Reply.the-variants.{Unknown as Unanswered}
 use Rattle.listing.specs.declared.Results.the-variants.{Empty, Absent, One, Two, Three, Payloads}
-use Rattle.listing_examples.specs.Examples.{EveryExample}
+use Rattle.listing_examples.specs.Examples.{accepted, refused, EveryExample}
 
 read-0 : commandOf (ascii "init rig7 60000 100") ≡ (Init (part 5 4) (pos 60000) (pos 100))
 unfolding same firstWhere all valueFrom fieldsFrom fieldsOf naturalOf integerOf initOf addOf endOf tickOf flushOf putOf carryOf readOf cutOf commandAt commandOf

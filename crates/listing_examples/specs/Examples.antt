@@ -9,10 +9,18 @@ use Rattle.fields.specs.Fields.{part}
 use Rattle.command.specs.Command.{commandOf, rowOfCommand}
 use Rattle.command.specs.declared.Command.{Command}
 use Rattle.command.specs.declared.Command.the-variants.{Init, Add, End, Tick, Flush, Put, Carry, Read, Cut, Unknown}
-use Rattle.listing.specs.Listing.{accepted, refused, replyLine}
+use Rattle.listing.specs.Listing.{replyLine}
 use Rattle.listing.specs.declared.Reply.{Reply}
-use Rattle.listing.specs.declared.Reply.the-variants.{Unknown as Unanswered}
+use Rattle.listing.specs.declared.Reply.the-variants.{Unknown as Unanswered, Answered}
+use Rattle.listing.specs.declared.Results.{Results}
 use Rattle.listing.specs.declared.Results.the-variants.{Empty, Absent, One, Two, Three, Payloads}
+
+-- the reply to a call that was accepted; and to one that was not: "A refused call has no results."
+abbrev pub accepted : Results → Reply
+accepted results = Answered 0 results
+
+abbrev pub refused : ℕ → Reply
+refused number = Answered number Empty
 
 -- an input line and the command that it is; its reply with the lengths and the payloads, and the output line
 pub record Example : Type 0 where
