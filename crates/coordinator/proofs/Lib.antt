@@ -9,5 +9,6 @@ pub mod FlushCases
 pub mod OrderCases
 pub mod AckCases
 pub mod Laws
+pub mod Changes
 pub mod Named
 pub mod Reserve

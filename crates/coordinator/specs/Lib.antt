@@ -1,6 +1,7 @@
 -- Definitions of the crate coordinator: its state, and each of its calls.
 pub mod Coordinator
 pub mod Named
+pub mod Change
 pub mod Open
 pub mod Init
 pub mod Add
