@@ -16,13 +16,13 @@ use Rattle.row.specs.Limits.{epochMax}
 use Rattle.row.specs.Row.{isBegin, isPrepare}
 use Rattle.row.specs.Steps.{begun, widened}
 use Rattle.row.specs.declared.Row.{Row}
-use Rattle.answers.specs.Refusals.{firstRefusal, orRefuse}
+use Rattle.answers.specs.Refusals.{firstRefusal, orRefuse, Decision}
 use Rattle.answers.specs.declared.Answer.{Answer}
 use Rattle.answers.specs.declared.Answer.the-variants.{Done, Refused}
 use Rattle.answers.proofs.Laws.{after-none, after-next, after-all}
 use Rattle.table.specs.Table.{rowAt, idCount}
 use Rattle.table.specs.declared.Held.{Held}
-use Rattle.coordinator.specs.Coordinator.{logEnd, admits, clockAt, rowFrame, logFull, advance, append, after, logAfter, Performed}
+use Rattle.coordinator.specs.Coordinator.{logEnd, admits, clockAt, rowFrame, logFull, Action, advance, append, after, logAfter, Performed}
 use Rattle.coordinator.specs.Change.{unlessRefused, doneUnless, Leaves}
 use Rattle.coordinator.specs.Add.{allJoined, addRow, addRowTests, addTests, addAction, add}
 use Rattle.coordinator.specs.declared.Coordinator.{Coordinator}
@@ -124,13 +124,13 @@ module _ (s : Coordinator) (n : ℕ) (name : List ℕ) (pid epoch : ℤ) (set : 
     pub add-admitted : r ≡ 0 → (admits s n ≡ true) × (held .row ≡ rowAt (s .table) (held .place)) × (addFull s (held .row) set (toZ w64 (ofZ w64 time)) ≡ false)
     add-admitted z = (passed z .admitted, held-is .1, rw (toZ-ofZ t, row-is s name (held-is .0 (passed z .named)) (held-is .1)) (passed z .room))
 
-    does : r ≡ 0 → addAt s (held .place) set (toZ w64 (ofZ w64 time)) ≡ addAction s name set time
+    decided : r ≡ 0 → _≡_ {A = Decision Answer Action} (record { answer = Done; action = addAt s (held .place) set (toZ w64 (ofZ w64 time)) }) (record { answer = Done; action = addAction s name set time })
     unfolding addAt addAction
-    does z = rw (toZ-ofZ t, held-is .0 (passed z .named))
+    decided z = rw (toZ-ofZ t, held-is .0 (passed z .named))
 
     pub add-performs : (log : List ℕ) {answer : Answer} {made state : Coordinator} {out : List ℕ} → Leaves (unlessRefused r (addAt s (held .place) set (toZ w64 (ofZ w64 time)))) s log made out
         → (answer ≡ doneUnless r) × (state ≡ made) → Performed (add s n name pid epoch set time) s log answer state out
     unfolding add
     add-performs log h a =
         performed-unless (firstRefusal (addTests s n name pid epoch set time)) Refused (record { answer = Done; action = addAction s name set time }) s log number
-        (addAt s (held .place) set (toZ w64 (ofZ w64 time))) does (a .0) h (a .1)
+        (record { answer = Done; action = addAt s (held .place) set (toZ w64 (ofZ w64 time)) }) decided (a .0) h (a .1)

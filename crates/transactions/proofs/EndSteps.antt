@@ -13,13 +13,13 @@ use Rattle.record.specs.declared.Status.{Status}
 use Rattle.row.specs.Row.{isBegin, isPrepare}
 use Rattle.row.specs.Steps.{prepared, prepareOf}
 use Rattle.row.specs.declared.Row.{Row}
-use Rattle.answers.specs.Refusals.{firstRefusal, orRefuse}
+use Rattle.answers.specs.Refusals.{firstRefusal, orRefuse, Decision}
 use Rattle.answers.specs.declared.Answer.{Answer}
 use Rattle.answers.specs.declared.Answer.the-variants.{Done, Refused}
 use Rattle.answers.proofs.Laws.{after-none, after-next, after-all}
 use Rattle.table.specs.Table.{rowAt}
 use Rattle.table.specs.declared.Held.{Held}
-use Rattle.coordinator.specs.Coordinator.{admits, clockAt, advance, append, after, logAfter, Performed}
+use Rattle.coordinator.specs.Coordinator.{admits, clockAt, Action, advance, append, after, logAfter, Performed}
 use Rattle.coordinator.specs.Change.{unlessRefused, doneUnless, Leaves}
 use Rattle.coordinator.specs.End.{endFits, endRowTests, endTests, endAction, end}
 use Rattle.coordinator.specs.declared.Coordinator.{Coordinator}
@@ -92,13 +92,13 @@ module _ (s : Coordinator) (n : ℕ) (name : List ℕ) (pid epoch : ℤ) (verdic
   end-admitted z = passed z .admitted
 
   module _ {held : Held} (held-is : FoundFor s name held) (f : SFits w64 time) where
-    does : r ≡ 0 → endAt s (held .place) verdict (toZ w64 (ofZ w64 time)) ≡ endAction s name verdict time
+    decided : r ≡ 0 → _≡_ {A = Decision Answer Action} (record { answer = Done; action = endAt s (held .place) verdict (toZ w64 (ofZ w64 time)) }) (record { answer = Done; action = endAction s name verdict time })
     unfolding endAt endAction
-    does z = rw (toZ-ofZ f, held-is .0 (passed z .named))
+    decided z = rw (toZ-ofZ f, held-is .0 (passed z .named))
 
     pub end-performs : (log : List ℕ) {answer : Answer} {made state : Coordinator} {out : List ℕ} → Leaves (unlessRefused r (endAt s (held .place) verdict (toZ w64 (ofZ w64 time)))) s log made out
         → (answer ≡ doneUnless r) × (state ≡ made) → Performed (end s n name pid epoch verdict time) s log answer state out
     unfolding end
     end-performs log h a =
         performed-unless (firstRefusal (endTests s n name pid epoch verdict)) Refused (record { answer = Done; action = endAction s name verdict time }) s log number
-        (endAt s (held .place) verdict (toZ w64 (ofZ w64 time))) does (a .0) h (a .1)
+        (record { answer = Done; action = endAt s (held .place) verdict (toZ w64 (ofZ w64 time)) }) decided (a .0) h (a .1)
