@@ -6,11 +6,11 @@ use Prim.Native.Nat.{ℕ, _+_, _≤_, _<_}
 use lib.Dec.{eqb, ltb}
 use lib.IntN.{ℤ, pos}
 use lib.ListN.{length}
-use mir.Syntax.{w16, w32, w64}
+use mir.Syntax.{w32, w64}
 use mir.Val.{SFits, toZ, ofZ}
 use mir.Facts.{toZ-ofZ}
 use borrow.Author.Tests.{leb-false}
-use Rattle.numbers.specs.Signed.{inRange, signedOf, toNat}
+use Rattle.numbers.specs.Signed.{inRange, toNat}
 use Rattle.numbers.specs.Padded.{padded}
 use Rattle.numbers.proofs.Tests.{and-false-right}
 use Rattle.record.specs.Limits.{nameMax, timeoutMax}
@@ -24,7 +24,7 @@ use Rattle.row.specs.declared.Row.{Row}
 use Rattle.answers.specs.Limits.{places}
 use Rattle.answers.specs.Refusals.{firstRefusal, orRefuse, Decision}
 use Rattle.answers.specs.declared.InitAnswer.{InitAnswer}
-use Rattle.answers.specs.declared.InitAnswer.the-variants.{Given, Aborting, Refused}
+use Rattle.answers.specs.declared.InitAnswer.the-variants.{Aborting, Refused}
 use Rattle.answers.proofs.Laws.{or-false-right, after-none, after-next, after-all}
 use Rattle.table.specs.Table.{rowAt, placeFor, lowestFree, idCount}
 use Rattle.table.specs.declared.Held.{Held}
