@@ -1,4 +1,4 @@
--- Laws of the crate coordinator: of each call by its cases; what every call tests and how it appends; and what the calls by name have in common.
+-- Laws of the crate coordinator: of each call by its cases; what every call tests; what its change leaves; and what the calls by name have in common.
 pub mod Held
 pub mod OpenCases
 pub mod InitCases
@@ -9,5 +9,6 @@ pub mod FlushCases
 pub mod OrderCases
 pub mod AckCases
 pub mod Laws
+pub mod Changes
 pub mod Named
 pub mod Reserve

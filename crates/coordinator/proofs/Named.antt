@@ -1,4 +1,4 @@
--- What the calls by name have in common: the place of a name, the tests with which they begin, and what a decision leaves.
+-- What the calls by name have in common: the place of a name, and the tests with which they begin.
 use mathlib.Core.Path.{_≡_, refl, sym, ap, _∙_}
 use mathlib.Core.Bool.{Bool, true, false}
 use mathlib.Core.List.{List, _++_}
@@ -17,12 +17,12 @@ use Rattle.record.specs.Limits.{nameMax}
 use Rattle.record.specs.Record.{nameFits}
 use Rattle.record.proofs.Bounds.{name-short}
 use Rattle.row.specs.declared.Row.{Row}
-use Rattle.answers.specs.Refusals.{Test, firstRefusal, numbersOf, among, Decision, unless}
-use Rattle.answers.proofs.Laws.{none-applies, first-append, unless-accepted, unless-refused}
+use Rattle.answers.specs.Refusals.{Test, firstRefusal, numbersOf, among}
+use Rattle.answers.proofs.Laws.{none-applies, first-append}
 use Rattle.table.specs.Limits.{reserve}
 use Rattle.table.specs.Table.{rowAt, placeOf}
 use Rattle.table.specs.declared.Held.{Held}
-use Rattle.coordinator.specs.Coordinator.{logEnd, placeOfName, rowOf, notHeld, clockAt, rowFrame, logFull, Action, keep, Performed}
+use Rattle.coordinator.specs.Coordinator.{logEnd, placeOfName, rowOf, notHeld, clockAt, rowFrame, logFull}
 use Rattle.coordinator.specs.declared.Coordinator.{Coordinator}
 use Rattle.coordinator.specs.Named.{nameTests, FoundFor, notHeldAt}
 
@@ -76,21 +76,6 @@ module _ (s : Coordinator) (name : List ℕ) {place : ℕ} (found : place ≡ pl
   pub not-held-is : (pid : ℤ) → notHeldAt place row pid ≡ notHeld s name pid
   unfolding notHeld
   not-held-is pid = rw (taken, found)
-
--- ---- what is decided
-
-module _ {Answer : Type 0} (k : ℕ) (refused : ℕ → Answer) (d : Decision Answer Action) (s : Coordinator) (log : List ℕ) where
-  pub performed-refused : {r : ℕ} → r ≡ k → (r ≡ 0 → ⊥) → Performed (unless k refused keep d) s log (refused r) s log
-  performed-refused e h = rw (unless-refused k refused keep d (λ z. h (e ∙ z))) (ap refused e, refl, refl)
-
-  pub performed-accepted : k ≡ 0 → {answer : Answer} {state : Coordinator} {left : List ℕ} → Performed d s log answer state left
-      → Performed (unless k refused keep d) s log answer state left
-  performed-accepted z p = rw (unless-accepted k refused keep d z) p
-
--- the answer and the state as a call gave them
-pub performed-as : {Answer : Type 0} (d : Decision Answer Action) (s : Coordinator) (log : List ℕ) {left : List ℕ} {answer given : Answer} {state made : Coordinator}
-    → (answer ≡ given) × (state ≡ made) → Performed d s log given made left → Performed d s log answer state left
-performed-as d s log e p = rw (e .0, e .1) p
 
 -- ---- the row of the place that was found, by a test of it
 

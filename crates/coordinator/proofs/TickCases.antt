@@ -1,4 +1,4 @@
--- Tick by cases: when it is refused, what its test leaves when it passes, and what it then answers and does; that its place is the lowest that is overdue, and that it answers none only if there is none.
+-- Tick by cases: what its test leaves when it passes, and what it then answers and does; that its place is the lowest that is overdue, and that it answers none only if there is none.
 use Prim.Native.Nat.{ℕ, _-_, _≤_, _<_}
 use mathlib.Core.Path.{_≡_, refl, ap, subst, _∙_}
 use mathlib.Core.Logic.{_↔_}
@@ -19,7 +19,7 @@ use Rattle.answers.specs.Limits.{places}
 use Rattle.answers.specs.Refusals.{firstRefusal, numbersOf, among, Decision}
 use Rattle.answers.specs.declared.TickAnswer.{TickAnswer}
 use Rattle.answers.specs.declared.TickAnswer.the-variants.{Aborted, NoneDue, Refused}
-use Rattle.answers.proofs.Laws.{none-applies, unless-accepted, unless-refused}
+use Rattle.answers.proofs.Laws.{none-applies, unless-accepted}
 use Rattle.table.specs.Table.{rowAt}
 use Rattle.coordinator.specs.Coordinator.{admits, unflushed, clockAt, Action, keep, advance, append}
 use Rattle.coordinator.specs.Tick.{ageFrom, overdue, overduePlace, tickTests, tickAccepted, tick}
@@ -62,10 +62,6 @@ module _ (s : Coordinator) (clock : ℕ) where
         subst (λ (n : ℕ). (n ≤ firstWhere (overdue (s .flushed) clock) (s .table .rows)) ↔ ((place : ℕ) → place < n → overdue (s .flushed) clock (rowAt (s .table) place) ≡ false)) whole (first-nowhere (overdue (s .flushed) clock) (s .table .rows) freeRow)
 
 module _ (s : Coordinator) (n : ℕ) (time : ℤ) where
-  pub tick-refused : (firstRefusal (tickTests s n) ≡ 0 → ⊥) → tick s n time ≡ record { answer = Refused (firstRefusal (tickTests s n)); action = keep }
-  unfolding tick
-  tick-refused h = unless-refused _ Refused keep _ h
-
   -- ---- what the test leaves
 
   pub record TickPassed : Type 0 where

@@ -1,6 +1,7 @@
--- Definitions of the crate coordinator: its state, and each of its calls.
+-- Definitions of the crate coordinator: its state, and each of its calls; what a call changes.
 pub mod Coordinator
 pub mod Named
+pub mod Change
 pub mod Open
 pub mod Init
 pub mod Add

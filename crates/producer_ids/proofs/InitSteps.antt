@@ -3,14 +3,14 @@ use mathlib.Core.Path.{_≡_, refl, sym, ap, _∙_}
 use mathlib.Core.Bool.{Bool, true, false, cond, not, _&&_}
 use mathlib.Core.List.{List}
 use Prim.Native.Nat.{ℕ, _+_, _≤_, _<_}
-use lib.Dec.{ltb}
+use lib.Dec.{eqb, ltb}
 use lib.IntN.{ℤ, pos}
 use lib.ListN.{length}
-use mir.Syntax.{w16, w32, w64}
+use mir.Syntax.{w32, w64}
 use mir.Val.{SFits, toZ, ofZ}
 use mir.Facts.{toZ-ofZ}
 use borrow.Author.Tests.{leb-false}
-use Rattle.numbers.specs.Signed.{inRange, signedOf, toNat}
+use Rattle.numbers.specs.Signed.{inRange, toNat}
 use Rattle.numbers.specs.Padded.{padded}
 use Rattle.numbers.proofs.Tests.{and-false-right}
 use Rattle.record.specs.Limits.{nameMax, timeoutMax}
@@ -22,21 +22,23 @@ use Rattle.row.specs.Row.{isBegin, isPrepare}
 use Rattle.row.specs.Steps.{initialized, prepared, fenced, raise}
 use Rattle.row.specs.declared.Row.{Row}
 use Rattle.answers.specs.Limits.{places}
-use Rattle.answers.specs.Refusals.{firstRefusal, orRefuse}
+use Rattle.answers.specs.Refusals.{firstRefusal, orRefuse, Decision}
 use Rattle.answers.specs.declared.InitAnswer.{InitAnswer}
-use Rattle.answers.specs.declared.InitAnswer.the-variants.{Given, Aborting, Refused}
+use Rattle.answers.specs.declared.InitAnswer.the-variants.{Aborting, Refused}
 use Rattle.answers.proofs.Laws.{or-false-right, after-none, after-next, after-all}
-use Rattle.table.specs.Table.{lowestFree, idCount}
+use Rattle.table.specs.Table.{rowAt, placeFor, lowestFree, idCount}
 use Rattle.table.specs.declared.Held.{Held}
-use Rattle.coordinator.specs.Coordinator.{logEnd, placeOfName, rowOf, holdsName, clockAt, newPid, rowFrame, logFull, append, after, logAfter, Performed}
-use Rattle.coordinator.specs.Init.{needsPid, initRow, idsThen, initRowTests, initTests, initAccepted, init}
+use Rattle.coordinator.specs.Coordinator.{logEnd, admits, placeOfName, rowOf, holdsName, clockAt, newPid, rowFrame, logFull, Action, append, after, logAfter, Performed}
+use Rattle.coordinator.specs.Change.{unlessRefused, Leaves}
+use Rattle.coordinator.specs.Init.{needsPid, initRow, idsThen, initRowTests, initTests, given, aborting, initAccepted, init}
 use Rattle.coordinator.specs.declared.Coordinator.{Coordinator}
 use Rattle.coordinator.proofs.Held.{begun-place}
-use Rattle.coordinator.proofs.InitCases.{init-passed, init-aborting, init-given}
-use Rattle.coordinator.proofs.Laws.{fits-begun, fits-tested}
+use Rattle.coordinator.proofs.InitCases.{InitPassed, init-passed}
+use Rattle.coordinator.proofs.Changes.{performed-unless}
+use Rattle.coordinator.proofs.Laws.{fits-tested}
 use Rattle.coordinator.specs.Named.{nameTests, FoundFor}
-use Rattle.producer_ids.specs.Parts.{initRowWith}
-use Rattle.coordinator.proofs.Named.{named-refused, named-passed, named-fits, row-is, tested-at, performed-refused}
+use Rattle.producer_ids.specs.Parts.{initRowWith, initAt, initAnswerAt}
+use Rattle.coordinator.proofs.Named.{named-refused, named-passed, named-fits, row-is}
 
 -- ---- the record
 
@@ -97,41 +99,16 @@ module _ (s : Coordinator) (n : ℕ) (name : List ℕ) (timeout time : ℤ) {fir
       ∙ (after-next _ _ _ _ refl (rw (b, d, i, h, found)) e16
       ∙ (after-next _ _ _ _ refl (rw (f, w fits, j, k, b, h, found)) e17 ∙ after-all _))))))))
 
--- ---- what is answered and done
+-- ---- what is done
 
-module _ (s : Coordinator) (n : ℕ) (name : List ℕ) (timeout time : ℤ) (e : firstRefusal (initTests s n name timeout time) ≡ 0)
-    {held : Held} (held-is : FoundFor s name held) {begin : Bool} (tested : begin ≡ isBegin (held .row .status)) where
-  found : held .place ≡ placeOfName s name
-  found = held-is .0 (init-passed s n name timeout time e .named)
+module _ (s : Coordinator) (held : Held) (free : ℕ) (new : Row) (clock : ℕ) (log : List ℕ) {begin : Bool} (tested : begin ≡ isBegin (held .row .status)) {state : Coordinator} {out : List ℕ} where
+  pub init-fences : begin ≡ true → {fence : Row} → fence ≡ prepared (held .row) PrepareAbort (raise fenced (held .row .epoch)) clock
+      → state ≡ after (append (held .place) fence) s → out ≡ logAfter (append (held .place) fence) s log → Leaves (initAt held free new clock) s log state out
+  init-fences b w e o = rw (sym tested ∙ b) (rw w at e, rw w at o)
 
-  taken : held .row ≡ rowOf s name
-  taken = row-is s name found (held-is .1)
-
-  begins : {b : Bool} → begin ≡ b → isBegin (rowOf s name .status) ≡ b
-  begins q = tested-at (λ (r : Row). isBegin (r .status)) taken tested q
-
-  pub init-fits-begun : begin ≡ true → (new : Row) → logEnd s + length (rowFrame s new) ≤ n
-  init-fits-begun b new = fits-begun s n (init-passed s n name timeout time e .admitted) (placeOfName s name) (begins b) new
-
-  pub init-aborts : length (s .table .rows) ≡ places → begin ≡ true → {clock : ℕ} → clock ≡ clockAt s time → {new : Row} → new ≡ prepared (held .row) PrepareAbort (raise fenced (held .row .epoch)) clock
-      → (log : List ℕ) {state : Coordinator} {out : List ℕ} → state ≡ after (append (held .place) new) s → out ≡ logAfter (append (held .place) new) s log
-      → Performed (init s n name timeout time) s log Aborting state out
-  init-aborts all b k w log st o =
-      rw (init-aborting s n name timeout time e (begins b), begun-place s all name (begins b), st, o, w, k, taken, found) (refl, refl, refl)
-
-  module _ (b : begin ≡ false) {new : Row} (made : new ≡ initRow s (padded nameMax name) (ltb (held .place) places) (held .row) timeout time) where
-    -- 17 was tested
-    pub init-fits : logEnd s + length (rowFrame s new) ≤ n
-    init-fits =
-        let p = init-passed s n name timeout time e in
-        rw (made, taken, found)
-        (fits-tested s n (p .admitted) (initRow s (padded nameMax name) (holdsName s name) (rowOf s name) timeout time) (idsThen s (holdsName s name)) (and-false-right _ _ (ap not (begins b)) (p .room)))
-
-    pub init-gives : {free own : ℕ} → free ≡ lowestFree (s .table) → own ≡ cond (ltb (held .place) places) (held .place) free → (log : List ℕ) {answer : InitAnswer} {state left : Coordinator} {out : List ℕ}
-        → left ≡ after (append own new) s → out ≡ logAfter (append own new) s log → (answer ≡ Given (signedOf w64 (new .pid)) (signedOf w16 (new .epoch))) × (state ≡ left)
-        → Performed (init s n name timeout time) s log answer state out
-    init-gives fr o log st ou g =
-        rw (init-given s n name timeout time e (begins b), g .0, g .1, st, ou, made, o, fr, taken, found) (refl, refl, refl)
+  pub init-appends : begin ≡ false → {place : ℕ} → place ≡ cond (ltb (held .place) places) (held .place) free
+      → state ≡ after (append place new) s → out ≡ logAfter (append place new) s log → Leaves (initAt held free new clock) s log state out
+  init-appends b p e o = rw (sym tested ∙ b) (rw p at e, o)
 
 -- ---- the call, whose signed arguments are passed on
 
@@ -146,7 +123,50 @@ module _ (s : Coordinator) (n : ℕ) (name : List ℕ) (timeout time : ℤ) (f :
       → r ≡ firstRefusal (initTests s n name timeout time)
   init-number refusal = rw (toZ-ofZ f) at (refusal time (λ fits. rw (toZ-ofZ f) (init-made fits)))
 
-pub init-refuses : (s : Coordinator) (n : ℕ) (name : List ℕ) (timeout time : ℤ) {r : ℕ} → r ≡ firstRefusal (initTests s n name timeout time) → (r ≡ 0 → ⊥) → (log : List ℕ)
-    → Performed (init s n name timeout time) s log (Refused r) s log
-unfolding init
-init-refuses s n name timeout time e h log = performed-refused (firstRefusal (initTests s n name timeout time)) Refused (initAccepted s name timeout time) s log e h
+-- ---- what is decided
+
+module _ (s : Coordinator) (n : ℕ) (name : List ℕ) (timeout time : ℤ) {r : ℕ} (number : r ≡ firstRefusal (initTests s n name timeout time)) {held : Held} (held-is : FoundFor s name held)
+    {new : Row} (made : nameFits name ≡ true → new ≡ initRow s (padded nameMax name) (ltb (held .place) places) (held .row) timeout time) where
+  module _ (z : r ≡ 0) where
+    passed : InitPassed s n name timeout time
+    passed = init-passed s n name timeout time (sym number ∙ z)
+
+    found : held .place ≡ placeOfName s name
+    found = held-is .0 (passed .named)
+
+    taken : held .row ≡ rowOf s name
+    taken = row-is s name found (held-is .1)
+
+    -- 17 was tested
+    room : isBegin (held .row .status) ≡ false → logEnd s + length (rowFrame s new) ≤ n
+    room b =
+        rw (made (passed .named), taken, found)
+        (fits-tested s n (passed .admitted) (initRow s (padded nameMax name) (holdsName s name) (rowOf s name) timeout time) (idsThen s (holdsName s name))
+        (and-false-right _ _ (ap (λ (x : Row). not (isBegin (x .status))) (sym taken) ∙ ap not b) (passed .room)))
+
+    pub init-admitted : (admits s n ≡ true) × (held .row ≡ rowAt (s .table) (held .place)) × (isBegin (held .row .status) ≡ false → logEnd s + length (rowFrame s new) ≤ n)
+    init-admitted = (passed .admitted, held-is .1, room)
+
+    decided : length (s .table .rows) ≡ places → {free clock : ℕ} → free ≡ lowestFree (s .table) → clock ≡ clockAt s time
+        → _≡_ {A = Decision InitAnswer Action} (record { answer = initAnswerAt (held .row) new; action = initAt held free new clock }) (initAccepted s name timeout time)
+    unfolding initAccepted
+    decided all f k = rw (made (passed .named), taken, found, f, k) (go (isBegin (rowOf s name .status)) refl)
+      where
+        row : Row
+        row = initRow s (padded nameMax name) (holdsName s name) (rowOf s name) timeout time
+
+        go : (b : Bool) → isBegin (rowOf s name .status) ≡ b
+            → _≡_ {A = Decision InitAnswer Action} (record {
+              answer = cond b Aborting (given (placeFor (s .table) (padded nameMax name)) row .answer);
+              action = cond b (aborting (placeOfName s name) (rowOf s name) (clockAt s time) .action) (append (placeFor (s .table) (padded nameMax name)) row);
+            }) (cond b (aborting (placeFor (s .table) (padded nameMax name)) (rowOf s name) (clockAt s time)) (given (placeFor (s .table) (padded nameMax name)) row))
+        go true b = rw (begun-place s all name b)
+        go false b = refl
+
+  pub init-performs : length (s .table .rows) ≡ places → {free : ℕ} → free ≡ lowestFree (s .table) → SFits w64 time → (log : List ℕ) {answer : InitAnswer} {left state : Coordinator} {out : List ℕ}
+      → Leaves (unlessRefused r (initAt held free new (clockAt s (toZ w64 (ofZ w64 time))))) s log left out → answer ≡ cond (eqb r 0) (initAnswerAt (held .row) new) (Refused r) → state ≡ left
+      → Performed (init s n name timeout time) s log answer state out
+  unfolding init
+  init-performs all {free} f t log h a e =
+      performed-unless (firstRefusal (initTests s n name timeout time)) Refused (initAccepted s name timeout time) s log number
+      (record { answer = initAnswerAt (held .row) new; action = initAt held free new (clockAt s (toZ w64 (ofZ w64 time))) }) (λ z. decided z all f (ap (clockAt s) (toZ-ofZ t))) a h e

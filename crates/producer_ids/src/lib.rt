@@ -1,12 +1,13 @@
 // Init: a producer takes a name and gets its pid and epoch.
 use answers::InitAnswer;
+use coordinator::Change;
 use coordinator::Coordinator;
 use coordinator::Initialized;
 use row::Row;
 use table::Held;
 ghost use mathlib.Core.Path.{_≡_};
-ghost use mathlib.Core.Bool.{true, cond};
-ghost use lib.Dec.{ltb};
+ghost use mathlib.Core.Bool.{true, false, cond};
+ghost use lib.Dec.{eqb, ltb};
 ghost use Prim.Native.Nat.{_+_, _≤_};
 ghost use lib.IntN.{ℤ};
 ghost use lib.ListN.{length};
@@ -15,14 +16,16 @@ ghost use Rattle.numbers.specs.Signed.{signedOf};
 ghost use Rattle.numbers.specs.Padded.{padded};
 ghost use Rattle.record.specs.Limits.{nameMax};
 ghost use Rattle.record.specs.Record.{nameFits};
+ghost use Rattle.row.specs.Row.{isBegin};
 ghost use Rattle.answers.specs.Limits.{places};
 ghost use Rattle.answers.specs.Refusals.{firstRefusal};
-ghost use Rattle.answers.specs.declared.InitAnswer.the-variants.{Given};
-ghost use Rattle.table.specs.Table.{lowestFree, idCount, reserved};
-ghost use Rattle.coordinator.specs.Coordinator.{newPid, Performed};
+ghost use Rattle.answers.specs.declared.InitAnswer.the-variants.{Given, Refused};
+ghost use Rattle.table.specs.Table.{rowAt, lowestFree, idCount, reserved};
+ghost use Rattle.coordinator.specs.Coordinator.{logEnd, admits, clockAt, newPid, rowFrame, Performed};
+ghost use Rattle.coordinator.specs.Change.{changedBy, unlessRefused, Leaves};
 ghost use Rattle.coordinator.specs.Named.{FoundFor};
 ghost use Rattle.coordinator.specs.Init.{needsPid, initRow, initTests, init};
-ghost use Rattle.producer_ids.specs.Parts.{initRowWith};
+ghost use Rattle.producer_ids.specs.Parts.{initRowWith, initAt, initAnswerAt};
 
 // Whether Init gives a new pid.
 fn needs_pid(known: bool, row: Row) -> bool
@@ -137,16 +140,55 @@ fn init_refusal(
     answers::or_refuse(r, answers::NO_LOG_ROOM, !begin & full)
 }
 
-// Init that was not refused: its answer is the pid and the epoch of the new record.
-fn given(state: Coordinator, new: Row) -> Initialized
-    ensures { λ r. ⌜ (r .answer ≡ Given (signedOf w64 (new .pid)) (signedOf w16 (new .epoch))) × (r .state ≡ state) ⌝ }
+// What Init with this refusal and this new record changes. Only for `init`, whose tests leave what it requires where there is none.
+fn init_change(
+    s: Coordinator,
+    log: &mut [u8],
+    held: Held,
+    free: usize,
+    refusal: u8,
+    new: Row,
+    time: i64,
+) -> Change
+    requires { ⌜ (refusal ≡ 0 → (admits s (length (now log)) ≡ true) × (held .row ≡ rowAt (s .table) (held .place)) × (isBegin (held .row .status) ≡ false → logEnd s + length (rowFrame s new) ≤ length (now log))) ⌝ }
+    ensures { λ r. ⌜ Leaves (unlessRefused refusal (initAt held free new (clockAt s time))) s (now (log .entry)) (changedBy s r) (now (log .exit)) ⌝ }
+{
+    if refusal != 0 {
+        return coordinator::unchanged(s);
+    }
+    let catalogue = s.catalogue;
+    let row = held.row;
+    let status = row.status;
+    if row::is_begin(status) {
+        let fenced = coordinator::fence(row, numbers::later(s.clock, time));
+        let end = coordinator::write_row(catalogue, fenced, log, s.table.end);
+        return coordinator::appended(s, held.place, fenced, end);
+    }
+    let end = coordinator::write_row(catalogue, new, log, s.table.end);
+    coordinator::appended(s, place_for(held.place, free), new, end)
+}
+
+// The answer of Init that appended this record: its pid and epoch.
+fn given(new: Row) -> InitAnswer
+    ensures { λ r. ⌜ r ≡ Given (signedOf w64 (new .pid)) (signedOf w16 (new .epoch)) ⌝ }
 {
     let pid = numbers::signed_i64(new.pid);
     let epoch = numbers::signed_i16(new.epoch as u64);
-    Initialized {
-        answer: InitAnswer::Given(pid, epoch),
-        state,
+    InitAnswer::Given(pid, epoch)
+}
+
+// The answer of Init with this refusal, for the row that was found and the new record.
+fn init_answer(refusal: u8, row: Row, new: Row) -> InitAnswer
+    ensures { λ r. ⌜ r ≡ cond (eqb refusal 0) (initAnswerAt row new) (Refused refusal) ⌝ }
+{
+    if refusal != 0 {
+        return InitAnswer::Refused(refusal);
     }
+    let status = row.status;
+    if row::is_begin(status) {
+        return InitAnswer::Aborting;
+    }
+    given(new)
 }
 
 // Init: a producer takes a name, with a new epoch or a new pid.
@@ -161,24 +203,10 @@ pub fn init(s: Coordinator, log: &mut [u8], name: &[u8], timeout: i32, time: i64
     let held = table::find(table, own);
     let new = init_row(s, own, held, timeout, time);
     let refusal = init_refusal(s, log.len(), reserve, ids, free, name, held, new, timeout);
-    if refusal != 0 {
-        return Initialized {
-            answer: InitAnswer::Refused(refusal),
-            state: s,
-        };
-    }
-    let catalogue = s.catalogue;
+    let change = init_change(s, log, held, free, refusal, new, time);
     let row = held.row;
-    let status = row.status;
-    if row::is_begin(status) {
-        let fenced = coordinator::fence(row, numbers::later(s.clock, time));
-        let end = coordinator::write_row(catalogue, fenced, log, table.end);
-        return Initialized {
-            answer: InitAnswer::Aborting,
-            state: coordinator::appended(s, held.place, fenced, end),
-        };
+    Initialized {
+        answer: init_answer(refusal, row, new),
+        state: coordinator::changed(s, table, change),
     }
-    let place = place_for(held.place, free);
-    let end = coordinator::write_row(catalogue, new, log, table.end);
-    given(coordinator::appended(s, place, new, end), new)
 }

@@ -16,19 +16,22 @@ use Rattle.row.specs.Limits.{epochMax}
 use Rattle.row.specs.Row.{isBegin, isPrepare}
 use Rattle.row.specs.Steps.{begun, widened}
 use Rattle.row.specs.declared.Row.{Row}
-use Rattle.answers.specs.Refusals.{firstRefusal, orRefuse}
+use Rattle.answers.specs.Refusals.{firstRefusal, orRefuse, Decision}
+use Rattle.answers.specs.declared.Answer.{Answer}
 use Rattle.answers.specs.declared.Answer.the-variants.{Done, Refused}
 use Rattle.answers.proofs.Laws.{after-none, after-next, after-all}
 use Rattle.table.specs.Table.{rowAt, idCount}
 use Rattle.table.specs.declared.Held.{Held}
-use Rattle.coordinator.specs.Coordinator.{logEnd, admits, clockAt, rowFrame, logFull, advance, append, after, logAfter, Performed}
+use Rattle.coordinator.specs.Coordinator.{logEnd, admits, clockAt, rowFrame, logFull, Action, advance, append, after, logAfter, Performed}
+use Rattle.coordinator.specs.Change.{unlessRefused, doneUnless, Leaves}
 use Rattle.coordinator.specs.Add.{allJoined, addRow, addRowTests, addTests, addAction, add}
 use Rattle.coordinator.specs.declared.Coordinator.{Coordinator}
 use Rattle.coordinator.proofs.AddCases.{AddPassed, add-passed}
 use Rattle.coordinator.proofs.Laws.{fits-tested}
 use Rattle.coordinator.specs.Named.{nameTests, FoundFor, notHeldAt}
 use Rattle.transactions.specs.Parts.{addFull, addAt}
-use Rattle.coordinator.proofs.Named.{named-refused, named-passed, named-fits, row-is, not-held-is, tested-at, performed-refused, performed-accepted}
+use Rattle.coordinator.proofs.Named.{named-refused, named-passed, named-fits, row-is, not-held-is, tested-at}
+use Rattle.coordinator.proofs.Changes.{performed-unless}
 
 -- ---- the record
 
@@ -114,22 +117,20 @@ module _ (s : Coordinator) (n : ℕ) (name : List ℕ) (pid epoch : ℤ) (set : 
   number : r ≡ firstRefusal (addTests s n name pid epoch set time)
   number = rw (toZ-ofZ p, toZ-ofZ q, toZ-ofZ t) at refusal
 
-  pub add-refuses : (r ≡ 0 → ⊥) → (log : List ℕ) → Performed (add s n name pid epoch set time) s log (Refused r) s log
-  unfolding add
-  add-refuses h log =
-      performed-refused (firstRefusal (addTests s n name pid epoch set time)) Refused (record { answer = Done; action = addAction s name set time }) s log number h
+  module _ {held : Held} (held-is : FoundFor s name held) where
+    passed : r ≡ 0 → AddPassed s n name pid epoch set time
+    passed z = add-passed s n name pid epoch set time (sym number ∙ z)
 
-  module _ (z : r ≡ 0) {held : Held} (held-is : FoundFor s name held) where
-    passed : AddPassed s n name pid epoch set time
-    passed = add-passed s n name pid epoch set time (sym number ∙ z)
+    pub add-admitted : r ≡ 0 → (admits s n ≡ true) × (held .row ≡ rowAt (s .table) (held .place)) × (addFull s (held .row) set (toZ w64 (ofZ w64 time)) ≡ false)
+    add-admitted z = (passed z .admitted, held-is .1, rw (toZ-ofZ t, row-is s name (held-is .0 (passed z .named)) (held-is .1)) (passed z .room))
 
-    pub add-admitted : (admits s n ≡ true) × (held .row ≡ rowAt (s .table) (held .place)) × (addFull s (held .row) set (toZ w64 (ofZ w64 time)) ≡ false)
-    add-admitted = (passed .admitted, held-is .1, rw (toZ-ofZ t, row-is s name (held-is .0 (passed .named)) (held-is .1)) (passed .room))
+    decided : r ≡ 0 → _≡_ {A = Decision Answer Action} (record { answer = Done; action = addAt s (held .place) set (toZ w64 (ofZ w64 time)) }) (record { answer = Done; action = addAction s name set time })
+    unfolding addAt addAction
+    decided z = rw (toZ-ofZ t, held-is .0 (passed z .named))
 
-    pub add-performs : (log : List ℕ) {state : Coordinator} {out : List ℕ}
-        → (state ≡ after (addAt s (held .place) set (toZ w64 (ofZ w64 time))) s) × (out ≡ logAfter (addAt s (held .place) set (toZ w64 (ofZ w64 time))) s log)
-        → Performed (add s n name pid epoch set time) s log Done state out
-    unfolding add addAt addAction
-    add-performs log h =
-        performed-accepted (firstRefusal (addTests s n name pid epoch set time)) Refused (record { answer = Done; action = addAction s name set time }) s log (sym number ∙ z)
-        (rw (h .0, h .1, toZ-ofZ t, held-is .0 (passed .named)) (refl, refl, refl))
+    pub add-performs : (log : List ℕ) {answer : Answer} {made state : Coordinator} {out : List ℕ} → Leaves (unlessRefused r (addAt s (held .place) set (toZ w64 (ofZ w64 time)))) s log made out
+        → (answer ≡ doneUnless r) × (state ≡ made) → Performed (add s n name pid epoch set time) s log answer state out
+    unfolding add
+    add-performs log h a =
+        performed-unless (firstRefusal (addTests s n name pid epoch set time)) Refused (record { answer = Done; action = addAction s name set time }) s log number
+        (record { answer = Done; action = addAt s (held .place) set (toZ w64 (ofZ w64 time)) }) decided (a .0) h (a .1)

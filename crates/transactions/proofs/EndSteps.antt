@@ -13,18 +13,21 @@ use Rattle.record.specs.declared.Status.{Status}
 use Rattle.row.specs.Row.{isBegin, isPrepare}
 use Rattle.row.specs.Steps.{prepared, prepareOf}
 use Rattle.row.specs.declared.Row.{Row}
-use Rattle.answers.specs.Refusals.{firstRefusal, orRefuse}
+use Rattle.answers.specs.Refusals.{firstRefusal, orRefuse, Decision}
+use Rattle.answers.specs.declared.Answer.{Answer}
 use Rattle.answers.specs.declared.Answer.the-variants.{Done, Refused}
 use Rattle.answers.proofs.Laws.{after-none, after-next, after-all}
 use Rattle.table.specs.Table.{rowAt}
 use Rattle.table.specs.declared.Held.{Held}
-use Rattle.coordinator.specs.Coordinator.{admits, clockAt, advance, append, after, logAfter, Performed}
+use Rattle.coordinator.specs.Coordinator.{admits, clockAt, Action, advance, append, after, logAfter, Performed}
+use Rattle.coordinator.specs.Change.{unlessRefused, doneUnless, Leaves}
 use Rattle.coordinator.specs.End.{endFits, endRowTests, endTests, endAction, end}
 use Rattle.coordinator.specs.declared.Coordinator.{Coordinator}
 use Rattle.coordinator.proofs.EndCases.{EndPassed, end-passed}
 use Rattle.coordinator.specs.Named.{nameTests, FoundFor, notHeldAt}
 use Rattle.transactions.specs.Parts.{endAt}
-use Rattle.coordinator.proofs.Named.{named-refused, named-passed, named-fits, row-is, not-held-is, tested-at, performed-refused, performed-accepted}
+use Rattle.coordinator.proofs.Named.{named-refused, named-passed, named-fits, row-is, not-held-is, tested-at}
+use Rattle.coordinator.proofs.Changes.{performed-unless}
 
 -- ---- the tests
 
@@ -82,22 +85,20 @@ module _ (s : Coordinator) (n : ℕ) (name : List ℕ) (pid epoch : ℤ) (verdic
   number : r ≡ firstRefusal (endTests s n name pid epoch verdict)
   number = rw (toZ-ofZ p, toZ-ofZ q) at refusal
 
-  pub end-refuses : (r ≡ 0 → ⊥) → (log : List ℕ) → Performed (end s n name pid epoch verdict time) s log (Refused r) s log
-  unfolding end
-  end-refuses h log =
-      performed-refused (firstRefusal (endTests s n name pid epoch verdict)) Refused (record { answer = Done; action = endAction s name verdict time }) s log number h
+  passed : r ≡ 0 → EndPassed s n name pid epoch verdict time
+  passed z = end-passed s n name pid epoch verdict time (sym number ∙ z)
 
-  module _ (z : r ≡ 0) where
-    passed : EndPassed s n name pid epoch verdict time
-    passed = end-passed s n name pid epoch verdict time (sym number ∙ z)
+  pub end-admitted : r ≡ 0 → admits s n ≡ true
+  end-admitted z = passed z .admitted
 
-    pub end-admitted : admits s n ≡ true
-    end-admitted = passed .admitted
+  module _ {held : Held} (held-is : FoundFor s name held) (f : SFits w64 time) where
+    decided : r ≡ 0 → _≡_ {A = Decision Answer Action} (record { answer = Done; action = endAt s (held .place) verdict (toZ w64 (ofZ w64 time)) }) (record { answer = Done; action = endAction s name verdict time })
+    unfolding endAt endAction
+    decided z = rw (toZ-ofZ f, held-is .0 (passed z .named))
 
-    pub end-performs : {held : Held} → FoundFor s name held → SFits w64 time → (log : List ℕ) {state : Coordinator} {out : List ℕ}
-        → (state ≡ after (endAt s (held .place) verdict (toZ w64 (ofZ w64 time))) s) × (out ≡ logAfter (endAt s (held .place) verdict (toZ w64 (ofZ w64 time))) s log)
-        → Performed (end s n name pid epoch verdict time) s log Done state out
-    unfolding end endAt endAction
-    end-performs held-is f log h =
-        performed-accepted (firstRefusal (endTests s n name pid epoch verdict)) Refused (record { answer = Done; action = endAction s name verdict time }) s log (sym number ∙ z)
-        (rw (h .0, h .1, toZ-ofZ f, held-is .0 (passed .named)) (refl, refl, refl))
+    pub end-performs : (log : List ℕ) {answer : Answer} {made state : Coordinator} {out : List ℕ} → Leaves (unlessRefused r (endAt s (held .place) verdict (toZ w64 (ofZ w64 time)))) s log made out
+        → (answer ≡ doneUnless r) × (state ≡ made) → Performed (end s n name pid epoch verdict time) s log answer state out
+    unfolding end
+    end-performs log h a =
+        performed-unless (firstRefusal (endTests s n name pid epoch verdict)) Refused (record { answer = Done; action = endAction s name verdict time }) s log number
+        (record { answer = Done; action = endAt s (held .place) verdict (toZ w64 (ofZ w64 time)) }) decided (a .0) h (a .1)

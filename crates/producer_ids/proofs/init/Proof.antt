@@ -1,5 +1,5 @@
 -- `producer_ids::init` meets its contract.
-use mathlib.Core.Path.{_≡_, sym, _∙_}
+use mathlib.Core.Path.{_≡_}
 use mathlib.Core.Bool.{true}
 use lib.Dec.{ltb}
 use lib.ListN.{length}
@@ -10,10 +10,9 @@ use Rattle.record.specs.Record.{nameFits}
 use Rattle.answers.specs.Limits.{places}
 use Rattle.answers.specs.Refusals.{firstRefusal}
 use Rattle.coordinator.specs.Init.{initRow, initTests}
-use Rattle.coordinator.proofs.InitCases.{init-passed}
 use Rattle.coordinator.specs.Named.{FoundFor}
-use Rattle.coordinator.proofs.Named.{clock-is, found-for}
-use Rattle.producer_ids.proofs.InitSteps.{init-made, init-number, init-refuses, init-fits-begun, init-aborts, init-fits, init-gives}
+use Rattle.coordinator.proofs.Named.{found-for}
+use Rattle.producer_ids.proofs.InitSteps.{init-made, init-number, init-admitted, init-performs}
 use borrow.Author.Needs.{needs}
 use Rattle.producer_ids.proofs.init.Statement.{statement}
 use Rattle.producer_ids.proofs.init.Tie as tie
@@ -38,21 +37,15 @@ number r =
     init-number (a .s) (length (a .log .now)) (a .name .now) (a .timeout) (a .time) (s .fits .timeout) (s .fits .time) (w .before .before .padded-name .ensures) (ltb (held .place) places) (held .row) (w .init-row .ensures)
     (r .init-refusal .ensures)
 
--- past the tests
-accepted : (x : tie.Else1) → let a = start (x .before) .args in firstRefusal (initTests (a .s) (length (a .log .now)) (a .name .now) (a .timeout) (a .time)) ≡ 0
-accepted x = sym (number (x .before)) ∙ x .if1 .left
-
-made : (x : tie.Else1) → let a = start (x .before) .args in
-    let w = x .before .before in
+-- the new record, of a name that fits
+made : (w : tie.After-init-row) → let s = w .before .before .before .before .before .before .before .before .before in
     let held = w .before .find .result in
-    w .init-row .result ≡ initRow (a .s) (padded nameMax (a .name .now)) (ltb (held .place) places) (held .row) (a .timeout) (a .time)
-made x =
-    let s = start (x .before) in
+    nameFits (s .args .name .now) ≡ true → w .init-row .result ≡ initRow (s .args .s) (padded nameMax (s .args .name .now)) (ltb (held .place) places) (held .row) (s .args .timeout) (s .args .time)
+made w =
+    let s = w .before .before .before .before .before .before .before .before .before in
     let a = s .args in
-    let w = x .before .before in
     let held = w .before .find .result in
     init-made (a .s) (length (a .log .now)) (a .name .now) (a .timeout) (a .time) (s .fits .timeout) (s .fits .time) (w .before .before .padded-name .ensures) (ltb (held .place) places) (held .row) (w .init-row .ensures)
-    (init-passed (a .s) (length (a .log .now)) (a .name .now) (a .timeout) (a .time) (accepted x) .named)
 
 reserved-requires : tie.Need-reserved-requires
 reserved-requires c κs = search needs
@@ -79,79 +72,30 @@ init-refusal-requires c κs =
     let i = l .before in
     (i .before .reserved .ensures, i .id-count .ensures, l .lowest-free .ensures, held-is f)
 
-returns : tie.Need-returns
-returns c =
-    let a = start (c .before) .args in
-    init-refuses (a .s) (length (a .log .now)) (a .name .now) (a .timeout) (a .time) (number (c .before)) (c .if1 .taken) (a .log .now)
+init-change-requires : tie.Need-init-change-requires
+init-change-requires c κs =
+    let r = c .before in
+    let a = start r .args in
+    init-admitted (a .s) (length (a .log .now)) (a .name .now) (a .timeout) (a .time) (number r) (held-is (r .before .before)) (made (r .before))
 
-is-begin-requires : tie.Need-is-begin-requires
-is-begin-requires c κs = search needs
+init-answer-requires : tie.Need-init-answer-requires
+init-answer-requires c κs = search needs
 
-later-requires : tie.Need-later-requires
-later-requires c κs = search needs
-
-fence-requires : tie.Need-fence-requires
-fence-requires c κs = search needs
-
-write-row-requires : tie.Need-write-row-requires
-write-row-requires c κs =
-    let f = c .before in
-    let t = f .before .before in
-    let b = t .before in
-    let x = b .before .before .before in
-    let a = start (x .before) .args in
-    init-fits-begun (a .s) (length (a .log .now)) (a .name .now) (a .timeout) (a .time) (accepted x) (held-is (x .before .before .before)) (b .is-begin .ensures) (t .if2 .taken) (f .fence .result)
-
-appended-requires : tie.Need-appended-requires
-appended-requires c κs = c .before .before .write-row .ensures .0
+changed-requires : tie.Need-changed-requires
+changed-requires c κs = search needs
 
 same-length : tie.Need-same-length
 same-length c = search needs
 
-returns-2 : tie.Need-returns-2
-returns-2 c =
-    let w = c .before .before .before in
-    let f = w .before .before in
-    let k = f .before in
-    let t = k .before in
-    let b = t .before in
-    let x = b .before .before .before in
-    let s = start (x .before) in
+returns : tie.Need-returns
+returns c =
+    let g = c .before in
+    let d = g .before .before .before .before in
+    let r = d .before .before in
+    let s = start r in
     let a = s .args in
-    init-aborts (a .s) (length (a .log .now)) (a .name .now) (a .timeout) (a .time) (accepted x) (held-is (x .before .before .before)) (b .is-begin .ensures) (sized s) (t .if2 .taken)
-    (clock-is (a .s) (s .fits .time) (k .later .ensures)) (f .fence .ensures) (a .log .now) (c .appended .ensures) (w .write-row .ensures .1)
-
-place-for-requires : tie.Need-place-for-requires
-place-for-requires c κs = search needs
-
-write-row-requires-2 : tie.Need-write-row-requires-2
-write-row-requires-2 c κs =
-    let t = c .before .before in
-    let b = t .before in
-    let x = b .before .before .before in
-    let a = start (x .before) .args in
-    init-fits (a .s) (length (a .log .now)) (a .name .now) (a .timeout) (a .time) (accepted x) (held-is (x .before .before .before)) (b .is-begin .ensures) (t .if2 .left) (made x)
-
-appended-requires-2 : tie.Need-appended-requires-2
-appended-requires-2 c κs = c .before .before .write-row2 .ensures .0
-
-given-requires : tie.Need-given-requires
-given-requires c κs = search needs
-
-same-length-2 : tie.Need-same-length-2
-same-length-2 c = search needs
-
-returns-3 : tie.Need-returns-3
-returns-3 c =
-    let p = c .before in
-    let w = p .before .before .before in
-    let o = w .before .before in
-    let t = o .before in
-    let b = t .before in
-    let x = b .before .before .before in
-    let a = start (x .before) .args in
-    init-gives (a .s) (length (a .log .now)) (a .name .now) (a .timeout) (a .time) (accepted x) (held-is (x .before .before .before)) (b .is-begin .ensures) (t .if2 .left) (made x)
-    (x .before .before .before .before .before .lowest-free .ensures) (o .place-for .ensures) (a .log .now) (p .appended2 .ensures) (w .write-row2 .ensures .1) (c .given .ensures)
+    init-performs (a .s) (length (a .log .now)) (a .name .now) (a .timeout) (a .time) (number r) (held-is (r .before .before)) (made (r .before)) (sized s) (r .before .before .before .before .lowest-free .ensures) (s .fits .time) (a .log .now)
+    (d .init-change .ensures) (g .init-answer .ensures) (c .changed .ensures)
 
 pub init-spec : {M : Type 1} → statement M
 init-spec =
@@ -164,17 +108,8 @@ init-spec =
     find-requires
     init-row-requires
     init-refusal-requires
-    returns
-    is-begin-requires
-    later-requires
-    fence-requires
-    write-row-requires
-    appended-requires
+    init-change-requires
+    init-answer-requires
+    changed-requires
     same-length
-    returns-2
-    place-for-requires
-    write-row-requires-2
-    appended-requires-2
-    given-requires
-    same-length-2
-    returns-3)
+    returns)

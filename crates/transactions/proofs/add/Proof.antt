@@ -1,9 +1,8 @@
 -- `transactions::add` meets its contract.
 use lib.ListN.{length}
 use Rattle.coordinator.specs.Named.{FoundFor}
-use Rattle.coordinator.specs.Add.{add}
-use Rattle.coordinator.proofs.Named.{found-for, performed-as}
-use Rattle.transactions.proofs.AddSteps.{add-refuses, add-admitted, add-performs}
+use Rattle.coordinator.proofs.Named.{found-for}
+use Rattle.transactions.proofs.AddSteps.{add-admitted, add-performs}
 use borrow.Author.Needs.{needs}
 use Rattle.transactions.proofs.add.Statement.{statement}
 use Rattle.transactions.proofs.add.Tie as tie
@@ -31,41 +30,26 @@ find-requires c κs = search needs
 add-refusal-requires : tie.Need-add-refusal-requires
 add-refusal-requires c κs = let i = c .before .before in (i .before .reserved .ensures, i .id-count .ensures, held-is c)
 
-refused-requires : tie.Need-refused-requires
-refused-requires c κs = search needs
-
-returns : tie.Need-returns
-returns c =
-    let t = c .before in
-    let r = t .before in
+add-change-requires : tie.Need-add-change-requires
+add-change-requires c κs =
+    let r = c .before in
     let s = start r in
     let a = s .args in
-    performed-as (add (a .s) (length (a .log .now)) (a .name .now) (a .pid) (a .epoch) (a .set) (a .time)) (a .s) (a .log .now) (c .refused .ensures)
-    (add-refuses (a .s) (length (a .log .now)) (a .name .now) (a .pid) (a .epoch) (a .set) (a .time) (s .fits .pid) (s .fits .epoch) (s .fits .time) (r .add-refusal .ensures) (t .if1 .taken) (a .log .now))
+    add-admitted (a .s) (length (a .log .now)) (a .name .now) (a .pid) (a .epoch) (a .set) (a .time) (s .fits .pid) (s .fits .epoch) (s .fits .time) (r .add-refusal .ensures) (held-is (r .before))
 
-add-action-requires : tie.Need-add-action-requires
-add-action-requires c κs =
-    let x = c .before in
-    let r = x .before in
-    let s = start r in
-    let a = s .args in
-    add-admitted (a .s) (length (a .log .now)) (a .name .now) (a .pid) (a .epoch) (a .set) (a .time) (s .fits .pid) (s .fits .epoch) (s .fits .time) (r .add-refusal .ensures) (x .if1 .left) (held-is (r .before))
-
-done-requires : tie.Need-done-requires
-done-requires c κs = search needs
+concluded-requires : tie.Need-concluded-requires
+concluded-requires c κs = search needs
 
 same-length : tie.Need-same-length
 same-length c = search needs
 
-returns-2 : tie.Need-returns-2
-returns-2 c =
+returns : tie.Need-returns
+returns c =
     let d = c .before .before .before in
-    let x = d .before .before in
-    let r = x .before in
+    let r = d .before .before in
     let s = start r in
     let a = s .args in
-    performed-as (add (a .s) (length (a .log .now)) (a .name .now) (a .pid) (a .epoch) (a .set) (a .time)) (a .s) (a .log .now) (c .done .ensures)
-    (add-performs (a .s) (length (a .log .now)) (a .name .now) (a .pid) (a .epoch) (a .set) (a .time) (s .fits .pid) (s .fits .epoch) (s .fits .time) (r .add-refusal .ensures) (x .if1 .left) (held-is (r .before)) (a .log .now) (d .add-action .ensures))
+    add-performs (a .s) (length (a .log .now)) (a .name .now) (a .pid) (a .epoch) (a .set) (a .time) (s .fits .pid) (s .fits .epoch) (s .fits .time) (r .add-refusal .ensures) (held-is (r .before)) (a .log .now) (d .add-change .ensures) (c .concluded .ensures)
 
 pub add-spec : {M : Type 1} → statement M
 add-spec =
@@ -76,9 +60,7 @@ add-spec =
     padded-name-requires
     find-requires
     add-refusal-requires
-    refused-requires
-    returns
-    add-action-requires
-    done-requires
+    add-change-requires
+    concluded-requires
     same-length
-    returns-2)
+    returns)

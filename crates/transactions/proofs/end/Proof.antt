@@ -1,9 +1,8 @@
 -- `transactions::end` meets its contract.
 use lib.ListN.{length}
 use Rattle.coordinator.specs.Named.{FoundFor}
-use Rattle.coordinator.specs.End.{end}
-use Rattle.coordinator.proofs.Named.{found-for, performed-as}
-use Rattle.transactions.proofs.EndSteps.{end-refuses, end-admitted, end-performs}
+use Rattle.coordinator.proofs.Named.{found-for}
+use Rattle.transactions.proofs.EndSteps.{end-admitted, end-performs}
 use borrow.Author.Needs.{needs}
 use Rattle.transactions.proofs.end.Statement.{statement}
 use Rattle.transactions.proofs.end.Tie as tie
@@ -28,41 +27,26 @@ find-requires c κs = search needs
 end-refusal-requires : tie.Need-end-refusal-requires
 end-refusal-requires c κs = (c .before .before .reserved .ensures, held-is c)
 
-refused-requires : tie.Need-refused-requires
-refused-requires c κs = search needs
-
-returns : tie.Need-returns
-returns c =
-    let t = c .before in
-    let r = t .before in
+end-change-requires : tie.Need-end-change-requires
+end-change-requires c κs =
+    let r = c .before in
     let s = start r in
     let a = s .args in
-    performed-as (end (a .s) (length (a .log .now)) (a .name .now) (a .pid) (a .epoch) (a .verdict) (a .time)) (a .s) (a .log .now) (c .refused .ensures)
-    (end-refuses (a .s) (length (a .log .now)) (a .name .now) (a .pid) (a .epoch) (a .verdict) (a .time) (s .fits .pid) (s .fits .epoch) (r .end-refusal .ensures) (t .if1 .taken) (a .log .now))
+    λ z. (end-admitted (a .s) (length (a .log .now)) (a .name .now) (a .pid) (a .epoch) (a .verdict) (a .time) (s .fits .pid) (s .fits .epoch) (r .end-refusal .ensures) z, held-is (r .before) .1)
 
-end-action-requires : tie.Need-end-action-requires
-end-action-requires c κs =
-    let x = c .before in
-    let r = x .before in
-    let s = start r in
-    let a = s .args in
-    (end-admitted (a .s) (length (a .log .now)) (a .name .now) (a .pid) (a .epoch) (a .verdict) (a .time) (s .fits .pid) (s .fits .epoch) (r .end-refusal .ensures) (x .if1 .left), held-is (r .before) .1)
-
-done-requires : tie.Need-done-requires
-done-requires c κs = search needs
+concluded-requires : tie.Need-concluded-requires
+concluded-requires c κs = search needs
 
 same-length : tie.Need-same-length
 same-length c = search needs
 
-returns-2 : tie.Need-returns-2
-returns-2 c =
+returns : tie.Need-returns
+returns c =
     let d = c .before .before .before in
-    let x = d .before .before in
-    let r = x .before in
+    let r = d .before .before in
     let s = start r in
     let a = s .args in
-    performed-as (end (a .s) (length (a .log .now)) (a .name .now) (a .pid) (a .epoch) (a .verdict) (a .time)) (a .s) (a .log .now) (c .done .ensures)
-    (end-performs (a .s) (length (a .log .now)) (a .name .now) (a .pid) (a .epoch) (a .verdict) (a .time) (s .fits .pid) (s .fits .epoch) (r .end-refusal .ensures) (x .if1 .left) (held-is (r .before)) (s .fits .time) (a .log .now) (d .end-action .ensures))
+    end-performs (a .s) (length (a .log .now)) (a .name .now) (a .pid) (a .epoch) (a .verdict) (a .time) (s .fits .pid) (s .fits .epoch) (r .end-refusal .ensures) (held-is (r .before)) (s .fits .time) (a .log .now) (d .end-change .ensures) (c .concluded .ensures)
 
 pub end-spec : {M : Type 1} → statement M
 end-spec =
@@ -72,9 +56,7 @@ end-spec =
     padded-name-requires
     find-requires
     end-refusal-requires
-    refused-requires
-    returns
-    end-action-requires
-    done-requires
+    end-change-requires
+    concluded-requires
     same-length
-    returns-2)
+    returns)

@@ -1,0 +1,2 @@
+-- Definitions of the crate completion.
+pub mod Parts
