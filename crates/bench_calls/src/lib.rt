@@ -33,7 +33,7 @@ pub extern "C" fn bench_calls_repeat(
     let mut out = [0u64; 1];
     let mut notes = [0u64; 1];
     let server = bench_script::run(text, names, script, log, words, &mut out, &mut notes);
-    let one = bench_script::call_at(call, 0);
+    let one = bench_notes::call_at(call, 0);
     bench_repeat::repeat(server, one, count, rounds, names, log, words)
 }
 

@@ -2,7 +2,6 @@
 use call_lines::Kind;
 use coordinator::Coordinator;
 use partition::Partition;
-use row::Row;
 ghost use Prim.Native.Nat.{_<_};
 
 pub const PARTITIONS: usize = 3;
@@ -45,59 +44,18 @@ fn set_text(s: State, line: &[u8]) -> State {
     u
 }
 
-// A state in which the id at a place holds this epoch.
-fn with_epoch(s: State, rows: [Row; answers::PLACES], place: usize, epoch: u16) -> State
-    requires { ⌜ place < 32 ⌝ }
-{
-    let mut changed = rows;
-    let mut row = rows[place];
-    row.epoch = epoch;
-    changed[place] = row;
-    let mut table = s.coordinator.table;
-    table.rows = changed;
-    let mut c = s.coordinator;
-    c.table = table;
-    with_coordinator(s, c)
-}
-
 // A line with another epoch for the id at a place: calls would take as many turns to get there.
 fn set_epoch(s: State, line: &[u8]) -> State {
     let place = call_lines::place(line, 1);
-    let written = call_lines::signed_16(line, 2);
-    if answers::PLACES <= place {
-        call_answers::unknown();
-        return s;
-    }
-    let rows = s.coordinator.table.rows;
-    let epoch = numbers::natural_i16(written);
-    if row::free(rows[place]) || written < 0 || row::EPOCH_LAST < epoch {
+    let epoch = call_lines::signed_16(line, 2);
+    let c = s.coordinator;
+    if !script_values::may_hold(c, place, epoch) {
         call_answers::unknown();
         return s;
     }
     call_answers::word(line);
     call_answers::end_line();
-    with_epoch(s, rows, place, epoch)
-}
-
-// The partition in which the producer at a place has this last sequence.
-fn with_sequence(p: Partition, place: usize, sequence: u32) -> Partition
-    requires { ⌜ place < 32 ⌝ }
-{
-    let mut producers = p.producers;
-    let mut producer = producers[place];
-    producer.sequence = sequence;
-    producers[place] = producer;
-    let mut u = p;
-    u.producers = producers;
-    u
-}
-
-// Whether a partition has a producer at a place.
-fn has_producer(p: Partition, place: usize) -> bool
-    requires { ⌜ place < 32 ⌝ }
-{
-    let producers = p.producers;
-    producers[place].pid != partition::NO_PID
+    with_coordinator(s, script_values::with_epoch(c, place, epoch))
 }
 
 // A line with another last sequence for the producer at a place of a partition.
@@ -109,22 +67,14 @@ fn set_sequence(s: State, line: &[u8]) -> State {
         call_answers::unknown();
         return s;
     }
-    if answers::PLACES <= place {
-        call_answers::unknown();
-        return s;
-    }
     let p = s.partitions[index];
-    if !has_producer(p, place) || sequence < 0 {
+    if !script_values::may_have(p, place, sequence) {
         call_answers::unknown();
         return s;
     }
     call_answers::word(line);
     call_answers::end_line();
-    with_partition(
-        s,
-        index,
-        with_sequence(p, place, numbers::natural_i32(sequence)),
-    )
+    with_partition(s, index, script_values::with_sequence(p, place, sequence))
 }
 
 // A line with a call of the coordinator.

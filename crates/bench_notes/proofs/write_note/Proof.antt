@@ -1,10 +1,10 @@
--- `bench_script::write_note` meets its contract.
+-- `bench_notes::write_note` meets its contract.
 use Prim.Native.Nat.{_-_, _≤_}
 use mathlib.Core.Path.{_≡_}
 use lib.ListN.{length}
 use borrow.Author.Needs.{needs}
-use Rattle.bench_script.proofs.write_note.Statement.{statement}
-use Rattle.bench_script.proofs.write_note.Tie as tie
+use Rattle.bench_notes.proofs.write_note.Statement.{statement}
+use Rattle.bench_notes.proofs.write_note.Tie as tie
 
 abbrev Inv-loop : tie.InvT-loop
 Inv-loop notes₀ at told i₀ notes i = (length notes ≡ length notes₀) × (i ≤ 12)
