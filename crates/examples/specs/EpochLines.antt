@@ -5,7 +5,7 @@ use Rattle.record.specs.declared.Status.the-variants.{Empty, CompleteCommit, Co
 use Rattle.partition.specs.Partition.{noProducer}
 use Rattle.server.specs.Calls.{Call, openWords, orderCall, produceCall, markerCall}
 use Rattle.server.specs.Lines.{Line, line, lineFrom, writes, rig7, put}
-use Rattle.examples.specs.Starts.{reopened, holds7, initAt, addAt, endAt, ackAt, tickAt, flushed, rigTable, beginTable, from, tight, closedProducer}
+use Rattle.examples.specs.Starts.{reopened, holds7, initAt, addAt, endAt, ackAt, tickAt, flushed, rigTable, beginTable, holding, from, tight, closedProducer}
 use Rattle.examples.specs.Held.{HeldLine, heldFrom, held7, tableHeld7}
 
 -- in EMPTY with epoch 1, flushed; the log ends at 106
@@ -148,6 +148,9 @@ epochHeld =
     tableHeld7 (beginTable 32765) (initAt 70 100 ∷ []) 32766 60000 3 1 100 (pos 80) 0 100 ∷
     tableHeld7 (rigTable CompleteAbort 32766 0) (addAt 32766 2 100 ∷ []) 32766 60000 1 2 100 (pos 100) 0 100 ∷
     heldFrom (tight (beginTable 32766) 1079) (initAt 70 100 ∷ []) 0 1000 32767 60000 3 1 100 (pos 80) 0 100 ∷
-    -- "a pid above all earlier ones with epoch 0"
+    -- "same pid and epoch one higher while the held epoch is below 32766": 32765, with the pids spent
     heldFrom (tight (rigTable Empty 32765 0) 1132) (initAt 70 100 ∷ []) 0 1000 32766 70 0 0 100 (negsuc 0) 0 100 ∷
+    -- "else a pid above all earlier ones with epoch 0": 32766, and 32767 after the fence
+    heldFrom (holding (rigTable CompleteCommit 32766 0) noProducer) (initAt 70 100 ∷ []) 0 1001 0 70 0 0 100 (negsuc 0) 0 100 ∷
+    heldFrom (holding (beginTable 32766) noProducer) (abortsLast ++ (initAt 70 60100 ∷ [])) 0 1001 0 70 0 0 60100 (negsuc 0) 0 60100 ∷
     []

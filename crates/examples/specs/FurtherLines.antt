@@ -24,8 +24,9 @@ temptingLines =
     -- "Trusting acknowledgements from before a cut."
     line 2560 8 (prepares 0 ++ (mark 0 ∷ ack7 ∷ reopened 187 ∷ [])) (orderCall 257) 0 (pos 0 ∷ pos 1000 ∷ pos 0 ∷ pos 0 ∷ pos 0 ∷ pos 2 ∷ []) 1 0 ∷
     line 2560 8 (preparesTwo ++ (ack7 ∷ reopened 215 ∷ [])) (orderCall 257) 0 (pos 0 ∷ pos 1000 ∷ pos 0 ∷ pos 0 ∷ pos 0 ∷ pos 2 ∷ []) 1 0 ∷
-    -- "Letting Produce in on a widened set that isn't flushed."
+    -- "Letting Produce in on a widened set that isn't flushed.": at the new partition, and at the one that had joined before
     line 2560 8 (begins (pos 50) ++ (add7 256 ∷ [])) (produceCall rig7 (pos 1000) (pos 0) 8 (pos 0) 502) 12 [] 1 0 ∷
+    line 2560 8 (begins (pos 50) ++ (add7 256 ∷ [])) put 12 [] 1 0 ∷
     []
 
 -- opening
@@ -38,7 +39,9 @@ openingLines =
     -- a log cut before, inside and after its first frame, and inside and after its second
     line 2560 0 (holds7 ++ (join ∷ [])) (reopened 0) 0 [] 0 0 ∷
     line 2560 0 (holds7 ++ (join ∷ [])) (reopened 52) 0 [] 0 0 ∷
+    line 2560 0 (holds7 ++ (join ∷ [])) (reopened 53) 0 [] 1 0 ∷
     line 2560 0 (holds7 ++ (join ∷ [])) (reopened 119) 0 [] 1 0 ∷
+    line 2560 0 (holds7 ++ (join ∷ [])) (reopened 120) 0 [] 1 0 ∷
     -- the same seen by an Add: the name is not held, is in EMPTY, or is in BEGIN with all joined
     line 2560 0 (holds7 ++ (join ∷ reopened 52 ∷ [])) join 10 [] 0 0 ∷
     line 2560 0 (holds7 ++ (join ∷ reopened 53 ∷ [])) join 0 [] 1 67 ∷

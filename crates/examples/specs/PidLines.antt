@@ -71,7 +71,7 @@ abbrev pub pidLines : List Line
 pidLines =
     -- "Pids come rising from a block"
     line 4096 0 (opened ∷ init7 (pos 50) ∷ init3 ∷ []) init2 0 (pos 1002 ∷ pos 0 ∷ []) 3 53 ∷
-    -- "from above every pid in the log": a record of a lower pid came last, by Init, by Add, and in a log that is opened
+    -- "from above every pid in the log": a record of a lower pid came last, by Init, by Add, by End, and in a log that is opened
     line 4096 0 (holdsBoth ++ (init7 (pos 50) ∷ [])) init2 0 (pos 1002 ∷ pos 0 ∷ []) 3 53 ∷
     line 4096 0 (holdsBoth ++ (join ∷ [])) init2 0 (pos 1002 ∷ pos 0 ∷ []) 3 53 ∷
     line 4096 0 (beginsBoth 256 ++ (end7 0 ∷ [])) init2 0 (pos 1002 ∷ pos 0 ∷ []) 3 53 ∷

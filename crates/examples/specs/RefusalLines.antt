@@ -298,7 +298,7 @@ produceRefusals =
     -- "Another pid's open transaction at that place: 14.": in the first 18 would apply too
     from (rigTable Begin 0 1) (openProducer 999 0 0) [] (produceCall rig7 (pos 1000) (pos 0) 8 (pos 0) 502) 14 [] 1 0 ∷
     from (rigTable Begin 0 1) (openProducer 1001 7 0) [] put 14 [] 1 0 ∷
-    -- "18 position not joined": 20 would apply too, and 19 in the second
+    -- "18 position not joined": in the first 20 would apply too, in the second 19
     from (rigTable Begin 0 1) (closedProducer 1000 0 0) [] (produceCall rig7 (pos 1000) (pos 0) 8 (pos 0) 502) 18 [] 1 0 ∷
     from (rigTable Begin 0 1) (closedProducer 1000 0 0) [] (produceCall rig7 (pos 1000) (pos 0) 1 (pos 9) 502) 18 [] 1 0 ∷
     -- "20 sequence below the next or equal to the last (tested before 19)": in the first 19 would apply too, in the second 22
