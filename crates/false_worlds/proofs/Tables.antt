@@ -22,8 +22,10 @@ use Rattle.row.specs.declared.Row.{Row}
 use Rattle.search.specs.Search.{firstWhere, sumOf, find}
 use Rattle.answers.specs.Answers.{openReply}
 use Rattle.answers.specs.Refusals.{firstRefusal}
-use Rattle.table.specs.Next.{mayCome}
-use Rattle.table.specs.Table.{placeOf, reserved}
+use Rattle.succession.specs.Moves.{mayFollowStatus}
+use Rattle.succession.specs.Succession.{first, initializes, begins, widens, preparesCommit, preparesAbort, completes, keeps, follows}
+use Rattle.table.specs.Next.{succeeds, mayCome}
+use Rattle.table.specs.Table.{placeOf, lowestFree, reserved, apply}
 use Rattle.log_reader.specs.Read.{readTests}
 use Rattle.log_reader.specs.Records.{framesOf}
 use Rattle.log_reader.specs.Scan.{isWhole, scan}
@@ -35,7 +37,7 @@ use Rattle.writable_logs.specs.Writer.{CouldWrite}
 use Rattle.writable_logs.specs.Demand2.{Openable, InOrder, StartsWith, HoldsLatest, HoldsNoOther, ReadsBack, OpensAgain, TableSays}
 use Rattle.server.specs.Lines.{scanText, lab3}
 use Rattle.false_worlds.specs.Made.{name7}
-use Rattle.false_worlds.specs.Tables.{scans, name3, empty7, begin7, bothRecords, Misplaced, swapped, fromTheEnd, placeTwice, placeLeftOut, misplaced, Misnumbered, pidGivenAgain, oldUpdate, tornEnd, misnumbered, begunRecords, NotLatest, firstRecord, otherLogEnd, takenAsAcknowledged, notHeld, notLatest, inventedName, Unreadable, timeoutZero, startInEmpty, setInEmpty, negativePid, longSet, unreadable, NotOpenable, otherBytes, badRest, wholeRest, bytesOf, restOf, recordsIn, OutOfOrder, noCatalogue, lengthPast, negativeEpoch, negativeFirst, lastBelowFirst, outOfOrder, ShutOut, writtenBad, otherSlice, ownSlice, shutOut, Saying, sayings}
+use Rattle.false_worlds.specs.Tables.{scans, name3, empty7, begin7, bothRecords, Misplaced, swapped, fromTheEnd, placeTwice, placeLeftOut, misplaced, Misnumbered, pidGivenAgain, oldUpdate, tornEnd, misnumbered, begunRecords, NotLatest, firstRecord, otherLogEnd, takenAsAcknowledged, notHeld, notLatest, inventedName, Unreadable, timeoutZero, negativePid, startInEmpty, setInEmpty, noSetInBegin, partitionDropped, unreadable, NotOpenable, otherBytes, badRest, wholeRest, bytesOf, restOf, recordsIn, OutOfOrder, noCatalogue, lengthPast, negativeEpoch, negativeFirst, lastBelowFirst, outOfOrder, ShutOut, writtenBad, notFollowing, tooLittleRoom, otherSlice, ownSlice, shutOut, Saying, sayings}
 use Rattle.false_worlds.proofs.Differ.{differ, differ-lists, fails, passes, above}
 
 pub not-by-appearance : (x : Misplaced) → PlacesByAppearance bothRecords (misplaced x) → ⊥
@@ -76,19 +78,21 @@ not-said-numbers x = λ k. not-its-numbers x (k .numbers)
 pub not-read-back : (x : Unreadable) → ReadsBack scans (unreadable x) → ⊥
 unfolding readFrame judged candidate wellFormed validName fieldsFit joinedFits startFits integerOf numberFrom walk past topicAt nameStands partitionsAt partitionsOf partitionsBelow withPartition nameBytes nameFits ones overwrite same bigEndian integerBytes untilZero members nameByte nameRun isLine lineAt isNew catalogueLines parse key partitionBytes topicEntry topicBytes topicsBelow countBelow topics value frame
 not-read-back timeoutZero = λ k. fails (ap (λ (f : FrameAt). isWhole (f .reading)) (k 0 []))
+not-read-back negativePid = λ k. fails (ap (λ (f : FrameAt). isWhole (f .reading)) (k 0 []))
 not-read-back startInEmpty = λ k. fails (ap (λ (f : FrameAt). isWhole (f .reading)) (k 0 []))
 not-read-back setInEmpty = λ k. fails (ap (λ (f : FrameAt). isWhole (f .reading)) (k 0 []))
-not-read-back negativePid = λ k. fails (ap (λ (f : FrameAt). isWhole (f .reading)) (k 0 []))
-not-read-back longSet = λ k. fails (ap (λ (f : FrameAt). isWhole (f .reading)) (k 0 []))
+not-read-back noSetInBegin = λ k. fails (ap (λ (f : FrameAt). isWhole (f .reading)) (k 0 []))
+not-read-back partitionDropped = λ k. differ 1 5 refl refl (ap (λ (f : FrameAt). f .found .joined) (k 0 []))
 
 -- nor is it a record that the server could have written
 pub not-written : (x : Unreadable) → CouldWrite scanText (unreadable x ∷ []) → ⊥
 unfolding readFrame judged candidate wellFormed validName fieldsFit joinedFits startFits integerOf numberFrom walk past topicAt nameStands partitionsAt partitionsOf partitionsBelow withPartition nameBytes nameFits ones overwrite same bigEndian integerBytes untilZero members nameByte nameRun isLine lineAt isNew catalogueLines parse key partitionBytes topicEntry topicBytes topicsBelow countBelow topics value frame
 not-written timeoutZero = λ k. let (here, rest) = k .well-formed in fails here
+not-written negativePid = λ k. let (here, rest) = k .well-formed in fails here
 not-written startInEmpty = λ k. let (here, rest) = k .well-formed in fails here
 not-written setInEmpty = λ k. let (here, rest) = k .well-formed in fails here
-not-written negativePid = λ k. let (here, rest) = k .well-formed in fails here
-not-written longSet = λ k. let (here, rest) = k .well-formed in fails here
+not-written noSetInBegin = λ k. let (here, rest) = k .well-formed in fails here
+not-written partitionDropped = λ k. let (here, rest) = k .well-formed in fails here
 
 pub not-openable : (x : NotOpenable) → Openable scanText (bytesOf x) (recordsIn x) (restOf x) → ⊥
 unfolding framesOf integerOf numberFrom ones overwrite same bigEndian integerBytes untilZero members nameByte nameRun isLine lineAt isNew catalogueLines parse key partitionBytes topicEntry topicBytes topicsBelow countBelow topics value frame
@@ -109,10 +113,16 @@ not-in-order negativeFirst = λ k. passes (k .numbers)
 not-in-order lastBelowFirst = λ k. passes (k .numbers)
 
 pub not-opening-again : (x : ShutOut) → OpensAgain scanText (shutOut x) → ⊥
-unfolding framesOf sumOf reserved admits scan readTests takeOverTests openTests opening firstRefusal mayCome readFrame judged candidate wellFormed validName fieldsFit joinedFits startFits integerOf numberFrom walk past topicAt nameStands partitionsAt partitionsOf partitionsBelow withPartition nameBytes nameFits ones overwrite same bigEndian integerBytes untilZero members nameByte nameRun isLine lineAt isNew catalogueLines parse key partitionBytes topicEntry topicBytes topicsBelow countBelow topics value frame
+unfolding framesOf sumOf reserved admits scan readTests takeOverTests openTests opening firstRefusal firstWhere placeOf lowestFree apply succeeds mayCome mayFollowStatus first initializes begins widens preparesCommit preparesAbort completes keeps follows readFrame judged candidate wellFormed validName fieldsFit joinedFits startFits integerOf numberFrom walk past topicAt nameStands partitionsAt partitionsOf partitionsBelow withPartition nameBytes nameFits ones overwrite same bigEndian integerBytes untilZero members nameByte nameRun isLine lineAt isNew catalogueLines parse key partitionBytes topicEntry topicBytes topicsBelow countBelow topics value frame
 not-opening-again writtenBad = λ k.
     let e = k .opens 8 (pos 0) (pos 0) (pos 0) (leb-true 0 8 refl) (leb-true 8 8 refl) refl in
     differ 6 0 refl refl (ap (λ (o : OpenedLog). openReply (o .answer) .number) e)
+not-opening-again notFollowing = λ k.
+    let e = k .opens 173 (pos 0) (pos 0) (pos 0) (leb-true 173 173 refl) (leb-true 173 173 refl) refl in
+    differ 6 0 refl refl (ap (λ (o : OpenedLog). openReply (o .answer) .number) e)
+not-opening-again tooLittleRoom = λ k.
+    let e = k .opens 120 (pos 0) (pos 0) (pos 0) (leb-true 120 120 refl) (leb-true 120 120 refl) refl in
+    differ 17 0 refl refl (ap (λ (o : OpenedLog). openReply (o .answer) .number) e)
 not-opening-again otherSlice = λ k. passes (k .admits-own 5)
 not-opening-again ownSlice = λ k. fails (k .admits-own 4)
 

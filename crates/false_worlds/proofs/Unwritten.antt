@@ -5,6 +5,7 @@ use mathlib.Core.Bool.{true}
 use mathlib.Core.List.{List, []}
 use native.Mathlib.Omega.{arith}
 use lib.IntN.{pos}
+use lib.ListN.{replicate, take}
 use lib.Count.{ones}
 use Rattle.numbers.specs.Bytes.{overwrite, same}
 use Rattle.numbers.specs.Integers.{bigEndian, integerBytes, integerOf, numberFrom}
@@ -21,14 +22,16 @@ use Rattle.answers.specs.Refusals.{firstRefusal}
 use Rattle.succession.specs.Moves.{mayFollowStatus}
 use Rattle.succession.specs.Succession.{first, initializes, begins, widens, preparesCommit, preparesAbort, completes, keeps, follows}
 use Rattle.table.specs.Next.{succeeds, mayCome}
-use Rattle.table.specs.Table.{placeOf, lowestFree, apply}
+use Rattle.table.specs.Table.{placeOf, lowestFree, reserved, apply}
 use Rattle.log_reader.specs.Read.{readTests}
 use Rattle.log_reader.specs.Records.{framesOf, tableFrom, allCome}
 use Rattle.log_reader.specs.Scan.{scan}
+use Rattle.coordinator.specs.Coordinator.{logEnd}
 use Rattle.coordinator.specs.Open.{takeOverTests, openTests, opening}
+use Rattle.writable_logs.specs.Items.{itemsFor, roomFor}
 use Rattle.writable_logs.specs.RecordsSay.{hasName, namesOf}
-use Rattle.writable_logs.specs.Writer.{CouldWrite}
-use Rattle.writable_logs.specs.Demand2.{Openable, InOrder, FirstBad}
+use Rattle.writable_logs.specs.Writer.{openingReply, CouldWrite}
+use Rattle.writable_logs.specs.Demand2.{Openable, InOrder, FirstBad, writtenBy}
 use Rattle.writable_logs.proofs.CouldWrite.{could-write}
 use Rattle.writable_logs.proofs.Demand2.{could-come, demand-2}
 use Rattle.server.specs.Lines.{scanText}
@@ -62,6 +65,38 @@ not-in-turn updateFalls = λ k. fails (could-come scanText (outOfTurn updateFall
 -- so a log of their frames is not one that is opened
 pub unwritten-not-openable : (x : OutOfTurn) → Openable scanText (framesOf scans (outOfTurn x)) (outOfTurn x) [] → ⊥
 unwritten-not-openable x = λ k. not-in-turn x (k .written)
+
+-- an empty log is opened in the buffer of the list that is made from them
+opening-accepted : (x : OutOfTurn) → openingReply scanText (replicate (roomFor (outOfTurn x)) 0) 0 (pos 0) (pos 0) (pos 0) .number ≡ 0
+unfolding scan readTests takeOverTests openTests opening firstRefusal sumOf reserved ones untilZero members nameByte nameRun isLine lineAt isNew catalogueLines parse same
+opening-accepted beginFirst = refl
+opening-accepted notPrepared = refl
+opening-accepted otherVerdict = refl
+opening-accepted otherSet = refl
+opening-accepted sameAgain = refl
+opening-accepted pidOfAnother = refl
+opening-accepted updateFalls = refl
+
+-- that list does not leave their frames: it would have written them
+pub not-by-steps : (x : OutOfTurn)
+    → take (logEnd (writtenBy scanText (outOfTurn x) .state)) (writtenBy scanText (outOfTurn x) .log) ≡ framesOf scans (outOfTurn x)
+    → ⊥
+not-by-steps x = λ e.
+    not-in-turn x
+    (record {
+      well-formed = formed-by-itself x;
+      start =
+          record {
+            log = replicate (roomFor (outOfTurn x)) 0;
+            epoch = pos 0;
+            first = pos 0;
+            last = pos 0;
+            typed = refl;
+            accepted = opening-accepted x;
+          };
+      items = itemsFor scans (outOfTurn x);
+      left = e;
+    })
 
 -- ---- the first bad frame
 

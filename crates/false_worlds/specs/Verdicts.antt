@@ -1,6 +1,6 @@
 -- Worlds in which an entry of a completed transaction does not stand under its verdict, one for each way.
 use Prim.Native.Nat.{ℕ}
-use mathlib.Core.List.{List, [], _∷_}
+use mathlib.Core.List.{List, [], _∷_, _++_}
 use Rattle.record.specs.declared.Status.the-variants.{PrepareCommit, PrepareAbort, CompleteCommit, CompleteAbort}
 use Rattle.record.specs.declared.Status.{Status}
 use Rattle.runs.specs.History.{Event, History, recordAppended, logFlushed, markerWritten, entryWritten}
@@ -19,10 +19,13 @@ pub data Misjudged : Type 0 where
 
 -- an entry at partition 0, event 3; the prepare of a status, event 4, flushed; these events; and the complete record of a status
 abbrev pub completing : Status → List Event → Status → History
-completing prepare [] complete =
-    recordAppended (recordOf7 complete 1000 0 0) 260 ∷ logFlushed 190 ∷ recordAppended (recordOf7 prepare 1000 0 3) 190 ∷ entryWritten (entry7 0 0 501 0) ∷ begun
-completing prepare (e ∷ events) complete =
-    recordAppended (recordOf7 complete 1000 0 0) 260 ∷ e ∷ logFlushed 190 ∷ recordAppended (recordOf7 prepare 1000 0 3) 190 ∷ entryWritten (entry7 0 0 501 0) ∷ begun
+completing prepare events complete =
+    recordAppended (recordOf7 complete 1000 0 0) 260 ∷
+    (events
+    ++ (logFlushed 190 ∷
+    recordAppended (recordOf7 prepare 1000 0 3) 190 ∷
+    entryWritten (entry7 0 0 501 0) ∷
+    begun))
 
 -- the marker of a pid with a verdict at a position
 abbrev pub marker : ℕ → ℕ → ℕ → List Event

@@ -10,7 +10,7 @@ use Rattle.search.specs.Search.{filter, Each}
 use Rattle.server.specs.Lines.{rig7}
 use Rattle.coordinator.specs.Calls.{endCall}
 use Rattle.runs.specs.History.{Order, Produced, givenIn, markersIn, collect, WithBefore, numberOf, History, Logged, recordsOf, isFlushed, nextOf, isPrepare, flushedPrepares, listed, isCompleted, completedPrepares, pendingPrepares, transaction, markerOver, carriedFor, markersFor}
-use Rattle.runs.specs.World.{World, catalogueOf, own, Item, call, callOrder, callProduce, deliver, cut, run}
+use Rattle.runs.specs.World.{World, catalogueOf, own, Item, call, callOrder, callProduce, deliver, acknowledge, cut, run}
 use Rattle.runs.specs.Demand3.{Undisturbed}
 use Rattle.run_examples.specs.Runs.{join, ending, flushing, carry, beginning, prepared, completeLost, completeLostCarried, twoPrepared, twoCarried}
 
@@ -34,7 +34,11 @@ twoInTurn =
 abbrev pub twoUnderWay : List Item
 twoUnderWay = twoPrepared ++ (callOrder 1 ∷ deliver own 14 ∷ callOrder 2 ∷ [])
 
--- a prepare that is appended and not flushed, flushed up to one byte before its end, and up to its end
+-- of the same two, the first order of the one name is carried, and the order of the other is given to its partition and not acknowledged
+abbrev pub bothUnderWay : List Item
+bothUnderWay = twoPrepared ++ (callOrder 1 ∷ deliver own 14 ∷ acknowledge own 14 ∷ callOrder 1 ∷ deliver own 17 ∷ [])
+
+-- a prepare that is appended and not flushed, and flushed up to one byte before its end
 abbrev pub notFlushed : List Item
 notFlushed = beginning ++ (ending ∷ [])
 
@@ -106,7 +110,7 @@ factsOf h =
 
 pub data Moment : Type 0 where
   unflushedPrepare shortFlush flushedPrepare : Moment
-  secondTransaction ordersUnderWay bothCompleted : Moment
+  secondTransaction ordersUnderWay ordersOfBoth bothCompleted : Moment
   completeCut completeLostThen carriedAgain : Moment
 
 abbrev pub itemsTo : Moment → List Item
@@ -115,6 +119,7 @@ itemsTo shortFlush = shortOfIt
 itemsTo flushedPrepare = prepared
 itemsTo secondTransaction = twoInTurn
 itemsTo ordersUnderWay = twoUnderWay
+itemsTo ordersOfBoth = bothUnderWay
 itemsTo bothCompleted = twoCarried
 itemsTo completeCut = cutOff
 itemsTo completeLostThen = completeLost
@@ -205,6 +210,22 @@ expectedFacts ordersUnderWay =
       carried = 0 ∷ 0 ∷ [];
       given = (11 ∷ 0 ∷ 1 ∷ 1 ∷ []) ∷ (11 ∷ 0 ∷ 0 ∷ 1 ∷ []) ∷ [];
       markers = (11 ∷ 0 ∷ 1 ∷ []) ∷ [];
+    }
+-- 14 the order for the first, which is carried, 17 that for the second, which is marked: ABORT, under which the entry 10 stands; both are at partition 0
+expectedFacts ordersOfBoth =
+    record {
+      records = 12 ∷ 11 ∷ 6 ∷ 5 ∷ 3 ∷ 1 ∷ [];
+      flushed = 12 ∷ 11 ∷ 6 ∷ 5 ∷ 3 ∷ 1 ∷ [];
+      prepares = 12 ∷ 11 ∷ [];
+      completed = [];
+      pending = 12 ∷ 11 ∷ [];
+      entries = (10 ∷ []) ∷ (9 ∷ 8 ∷ []) ∷ [];
+      verdicts = (1 ∷ []) ∷ (9 ∷ 0 ∷ []) ∷ [];
+      nexts = 0 ∷ 0 ∷ [];
+      listing = 1 ∷ 2 ∷ [];
+      carried = 0 ∷ 1 ∷ [];
+      given = (12 ∷ 1 ∷ 0 ∷ 1 ∷ []) ∷ (11 ∷ 0 ∷ 0 ∷ 1 ∷ []) ∷ [];
+      markers = (12 ∷ 0 ∷ 1 ∷ []) ∷ (11 ∷ 0 ∷ 1 ∷ []) ∷ [];
     }
 -- all three carried: 20 completes the commit, 24 the abort of the other name
 expectedFacts bothCompleted =
