@@ -1,8 +1,9 @@
--- Lines of partitions: coordinator epochs and places of markers, other pids at a place, the oldest open transaction, and the last sequence of a new pid.
+-- Lines of partitions: coordinator epochs and places of markers, other pids at a place, the oldest open transaction, words that no call has written, and
+-- the last sequence of a new pid.
 use Prim.Native.Nat.{ℕ}
 use mathlib.Core.List.{List, [], _∷_, _++_}
 use lib.IntN.{pos}
-use lib.ListN.{replicate}
+use lib.ListN.{length, replicate}
 use Rattle.record.specs.declared.Status.the-variants.{Begin}
 use Rattle.partition.specs.Partition.{noProducer}
 use Rattle.partition.specs.declared.Producer.{Producer}
@@ -15,6 +16,17 @@ use Rattle.examples.specs.Starts.{putAt, putNext, mark, prepares, put3, 
 abbrev pub partitionWith : List Producer → Server
 partitionWith producers =
     record { coordinator = blankState; log = []; partition = record { room = 40; end = 1; producers = producers; coordinator = 0 }; words = replicate 40 0; out = [] }
+
+-- no coordinator, and a partition with this many entries, no open transaction, and these words, which no call has written
+abbrev pub wordsAlone : ℕ → List ℕ → Server
+wordsAlone end words =
+    record {
+      coordinator = blankState;
+      log = [];
+      partition = record { room = length words; end = end; producers = replicate 32 noProducer; coordinator = 0 };
+      words = words;
+      out = [];
+    }
 
 -- an open transaction at place 31 alone
 abbrev pub lastPlaceOpen : Server
@@ -96,6 +108,10 @@ entryLines =
     reads (7 ∷ 7 ∷ 7 ∷ []) (502 ∷ 504 ∷ 7 ∷ []) (line 2560 40 (beginsBoth 1 ++ (put ∷ put3 ∷ mark3 0 ∷ mark 0 ∷ putNext ∷ mark 1 ∷ [])) (readCall 0) 0 (pos 2 ∷ pos 6 ∷ []) 2 0) ∷
     -- an entry under ABORT, then one under COMMIT of the same pid, read from the middle
     reads (7 ∷ []) (503 ∷ []) (line 2560 40 (begins (pos 50) ++ (put ∷ mark 1 ∷ putNext ∷ mark 0 ∷ [])) (readCall 1) 0 (pos 1 ∷ pos 4 ∷ []) 1 0) ∷
+    -- "kind (0 data, 1 COMMIT, 2 ABORT)" in words that no call has written: an entry without a marker, and one of kind 3, which is neither data nor a marker
+    reads (7 ∷ []) (7 ∷ []) (lineFrom (wordsAlone 1 (1000 ∷ 0 ∷ 0 ∷ 501 ∷ [])) [] (readCall 0) 0 (pos 0 ∷ pos 1 ∷ []) 0 0) ∷
+    reads (7 ∷ []) (7 ∷ []) (lineFrom (wordsAlone 2 (1000 ∷ 3 ∷ 0 ∷ 501 ∷ 1000 ∷ 1 ∷ 1 ∷ 0 ∷ [])) [] (readCall 0) 0 (pos 0 ∷ pos 2 ∷ []) 0 0) ∷
+    reads (7 ∷ []) (501 ∷ []) (lineFrom (wordsAlone 3 (1000 ∷ 0 ∷ 0 ∷ 501 ∷ 1000 ∷ 3 ∷ 1 ∷ 0 ∷ 1000 ∷ 1 ∷ 1 ∷ 0 ∷ [])) [] (readCall 0) 0 (pos 1 ∷ pos 3 ∷ []) 0 0) ∷
     -- "next sequence is 0, with no last, for a new pid or higher epoch": 2147483647 is ahead, and equal to no last
     from (rigTable Begin 0 1) noProducer [] (putAt (pos 2147483647)) 19 [] 1 0 ∷
     from (rigTable Begin 0 1) (closedProducer 999 0 5) [] (putAt (pos 2147483647)) 19 [] 1 0 ∷

@@ -1,4 +1,5 @@
--- What the history's definitions say of example runs: two transactions of one name, two names, a prepare that is not flushed, and orders given again after a cut.
+-- What the history's definitions say of example runs: two transactions of one name, two names, a prepare that is not flushed or is lost, and orders given
+-- again after a cut.
 use Prim.Native.Nat.{ℕ, _+_, _≤_}
 use mathlib.Core.Path.{_≡_}
 use mathlib.Core.Bool.{true}
@@ -8,11 +9,11 @@ use lib.IntN.{pos}
 use Rattle.numbers.specs.Signed.{toNat}
 use Rattle.search.specs.Search.{filter, Each}
 use Rattle.server.specs.Lines.{rig7}
-use Rattle.coordinator.specs.Calls.{endCall}
+use Rattle.coordinator.specs.Calls.{initCall, endCall}
 use Rattle.runs.specs.History.{Order, Produced, givenIn, markersIn, collect, WithBefore, numberOf, History, Logged, recordsOf, isFlushed, nextOf, isPrepare, flushedPrepares, listed, isCompleted, completedPrepares, pendingPrepares, transaction, markerOver, carriedFor, markersFor}
 use Rattle.runs.specs.World.{World, catalogueOf, own, Item, call, callOrder, callProduce, deliver, acknowledge, cut, run}
 use Rattle.runs.specs.Demand3.{Undisturbed}
-use Rattle.run_examples.specs.Runs.{join, ending, flushing, carry, beginning, prepared, completeLost, completeLostCarried, twoPrepared, twoCarried}
+use Rattle.run_examples.specs.Runs.{join, ending, flushing, carry, reopening, beginning, prepared, completeLost, completeLostCarried, twoPrepared, twoCarried}
 
 -- ---- the runs
 
@@ -45,7 +46,11 @@ notFlushed = beginning ++ (ending ∷ [])
 abbrev pub shortOfIt : List Item
 shortOfIt = notFlushed ++ (flushing 194 ∷ [])
 
--- between that cut, which takes the complete record, and the opening
+-- that prepare is lost in a cut, and an Init appends one of ABORT, which is flushed
+abbrev pub preparedAnew : List Item
+preparedAnew = notFlushed ++ (cut 124 ∷ reopening ∷ call own (initCall rig7 (pos 60000) (pos 130)) ∷ flushing 195 ∷ [])
+
+-- both orders of a prepare are carried, and a cut takes the complete record; no opening has come yet
 abbrev pub cutOff : List Item
 cutOff = prepared ++ carry 9 ++ carry 12 ++ (cut 195 ∷ [])
 
@@ -109,7 +114,7 @@ factsOf h =
 -- ---- the table
 
 pub data Moment : Type 0 where
-  unflushedPrepare shortFlush flushedPrepare : Moment
+  unflushedPrepare shortFlush flushedPrepare lostPrepare : Moment
   secondTransaction ordersUnderWay ordersOfBoth bothCompleted : Moment
   completeCut completeLostThen carriedAgain : Moment
 
@@ -117,6 +122,7 @@ abbrev pub itemsTo : Moment → List Item
 itemsTo unflushedPrepare = notFlushed
 itemsTo shortFlush = shortOfIt
 itemsTo flushedPrepare = prepared
+itemsTo lostPrepare = preparedAnew
 itemsTo secondTransaction = twoInTurn
 itemsTo ordersUnderWay = twoUnderWay
 itemsTo ordersOfBoth = bothUnderWay
@@ -171,6 +177,22 @@ expectedFacts flushedPrepare =
       prepares = 7 ∷ [];
       completed = [];
       pending = 7 ∷ [];
+      entries = (6 ∷ 5 ∷ []) ∷ [];
+      verdicts = (9 ∷ 9 ∷ []) ∷ [];
+      nexts = 0 ∷ [];
+      listing = 2 ∷ [];
+      carried = 0 ∷ [];
+      given = [];
+      markers = [];
+    }
+-- 7 is lost in the cut, event 8; the entries are of the transaction of 10
+expectedFacts lostPrepare =
+    record {
+      records = 10 ∷ 3 ∷ 1 ∷ [];
+      flushed = 10 ∷ 3 ∷ 1 ∷ [];
+      prepares = 10 ∷ [];
+      completed = [];
+      pending = 10 ∷ [];
       entries = (6 ∷ 5 ∷ []) ∷ [];
       verdicts = (9 ∷ 9 ∷ []) ∷ [];
       nexts = 0 ∷ [];
