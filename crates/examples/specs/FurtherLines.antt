@@ -343,10 +343,11 @@ readLines =
 -- "Every refusal leaves all as it was": each refused call stands before one that would show a change
 abbrev pub refusedLines : List Line
 refusedLines =
-    -- an Ack of another epoch, a Flush past the end, a Marker of verdict 2
+    -- an Ack of another epoch, a Flush past the end, a Marker of verdict 2, a Marker of a lower epoch
     line 2560 8 (prepares 0 ++ (call (ackCall 0 (pos 1000) (pos 1) 0) ∷ [])) (orderCall 257) 0 (pos 0 ∷ pos 1000 ∷ pos 0 ∷ pos 0 ∷ pos 0 ∷ pos 1 ∷ []) 1 0 ∷
     line 2560 8 (begins (pos 50) ++ (put ∷ end7 0 ∷ call (flushCall 188) ∷ [])) (orderCall 257) 0 [] 1 0 ∷
     writes (1000 ∷ 1 ∷ 1 ∷ 0 ∷ []) (line 2560 8 (prepares 0 ++ (markerCall 0 (pos 1000) (pos 0) 2 (pos 9) ∷ [])) (mark 0) 0 [] 1 0) ∷
+    writes (1000 ∷ 1 ∷ 4294967301 ∷ 0 ∷ []) (from (rigTable Begin 1 1) (openProducer 1000 1 0) (markerCall 0 (pos 1000) (pos 0) 0 (pos 9) ∷ []) (markerCall 0 (pos 1000) (pos 1) 0 (pos 5)) 0 [] 1 0) ∷
     []
 
 abbrev pub furtherLines : List Line
