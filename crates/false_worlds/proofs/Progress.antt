@@ -1,6 +1,5 @@
 -- In none of these worlds is there progress; what disturbs a carrying, and what does not.
 use mathlib.Core.Path.{refl}
-use mathlib.Core.List.{[]}
 use lib.IntN.{pos}
 use borrow.Author.Tests.{leb-true}
 use lib.Count.{trailingZeros}
@@ -24,7 +23,7 @@ use Rattle.table.specs.Table.{placeOf, lowestFree, reserved, apply}
 use Rattle.log_reader.specs.Read.{readTests}
 use Rattle.log_reader.specs.Records.{framesOf}
 use Rattle.log_reader.specs.Scan.{scan}
-use Rattle.coordinator.specs.Coordinator.{admits, appended, acknowledged}
+use Rattle.coordinator.specs.Coordinator.{admits}
 use Rattle.coordinator.specs.Open.{takeOverTests, openTests, opening}
 use Rattle.coordinator.specs.Order.{ordered, orderPlace, order}
 use Rattle.coordinator.specs.Ack.{ackRowTests, ackTests, ackAction, ack}

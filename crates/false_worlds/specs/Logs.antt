@@ -1,5 +1,5 @@
 -- Worlds in which the log is not the history's, one for each way.
-use mathlib.Core.List.{List, [], _∷_}
+use mathlib.Core.List.{[], _∷_}
 use lib.IntN.{pos}
 use lib.ListN.{replicate}
 use Rattle.record.specs.declared.Status.the-variants.{Empty}

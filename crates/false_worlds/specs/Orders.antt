@@ -1,9 +1,8 @@
 -- Worlds whose orders or markers are not for a flushed prepare, of another opening, or one too many, one for each way.
-use Prim.Native.Nat.{ℕ}
-use mathlib.Core.List.{List, [], _∷_}
+use mathlib.Core.List.{[], _∷_}
 use lib.IntN.{pos}
-use Rattle.record.specs.declared.Status.the-variants.{Begin, PrepareCommit, CompleteCommit}
-use Rattle.runs.specs.History.{Order, History, recordAppended, logFlushed, logCut, logOpened, orderGiven, markerWritten, WithBefore}
+use Rattle.record.specs.declared.Status.the-variants.{CompleteCommit}
+use Rattle.runs.specs.History.{Order, recordAppended, logCut, logOpened, orderGiven, markerWritten, WithBefore}
 use Rattle.runs.specs.World.{World}
 use Rattle.false_worlds.specs.Made.{recordOf7, begun, commits, committing, followed, order7, told}
 

@@ -2,7 +2,7 @@
 use Prim.Native.Nat.{ℕ}
 use mathlib.Core.List.{List, [], _∷_}
 use lib.IntN.{pos}
-use Rattle.record.specs.declared.Status.the-variants.{Empty, Begin, PrepareCommit}
+use Rattle.record.specs.declared.Status.the-variants.{Empty, Begin}
 use Rattle.runs.specs.History.{History, recordAppended, logFlushed, logOpened, markerWritten, entryWritten}
 use Rattle.runs.specs.World.{Leader, World, up, nothing}
 use Rattle.coordinator.specs.Open.{blankState}

@@ -1,15 +1,14 @@
 -- A text that is read by parts has the lines that it has as a whole.
-use Prim.Native.Nat.{ℕ, suc, _+_, _≤_, _<_}
+use Prim.Native.Nat.{ℕ, _+_, _≤_, _<_}
 use mathlib.Core.Path.{_≡_, refl, sym, ap, ap₂, _∙_}
-use mathlib.Core.Bool.{Bool, true, false, cond, _||_}
+use mathlib.Core.Bool.{Bool, true, false, cond}
 use mathlib.Core.List.{List, [], _∷_, _++_, map, append-assoc, append-nil}
 use native.Mathlib.Omega.{arith}
-use borrow.Author.Tests.{leb-true, leb-false, lt-ltb, le-ltb, ne-eqb}
-use lib.Dec.{eqb, ltb, leb}
+use borrow.Author.Tests.{leb-true, le-ltb, ne-eqb}
+use lib.Dec.{eqb, leb}
 use lib.ListN.{length, length-append}
-use Rattle.numbers.proofs.Tests.{by-cases}
 use Rattle.search.specs.Search.{Each}
-use Rattle.lines.specs.Text.{isFeed, linesFrom, linesOf, Line, whole, long, shown, Pending, pending, ended, linesIn, restIn, kept, lastLines, readParts, joined, SameLines}
+use Rattle.lines.specs.Text.{isFeed, linesFrom, linesOf, Line, shown, Pending, pending, ended, linesIn, restIn, kept, lastLines, readParts, joined, SameLines}
 
 -- ---- one byte more
 

@@ -1,6 +1,5 @@
 -- `bench_calls::bench_calls_open` meets its contract.
 use Prim.Native.Nat.{_-_, _≤_}
-use mathlib.Core.Path.{_≡_}
 use lib.ListN.{length}
 use borrow.Author.Needs.{needs}
 use Rattle.bench_calls.proofs.bench_calls_open.Statement.{statement}
