@@ -11,7 +11,7 @@ use lib.Dec.{leb·suc-suc}
 use lib.ListN.{length, take, drop, getD, drop-of-length-le}
 use lib.Seq.{drop-cons, take-nil}
 use Rattle.search.specs.Search.{firstWhere}
-use Rattle.lines.specs.Text.{isFeed}
+use Rattle.lines.specs.Text.{isLineFeed}
 use Rattle.lines.specs.Cursor.{foundIn, lineEnd}
 use Rattle.lines.specs.declared.Found.the-variants.{At, Nothing}
 
@@ -22,7 +22,7 @@ found-here from b part e = rw (eq-eqb b (code "\n") e, lt-ltb 0 (suc (length par
 found-on : (from b : ℕ) (part : List ℕ) → (b ≡ code "\n" → ⊥) → foundIn from (b ∷ part) ≡ foundIn (from + 1) part
 unfolding firstWhere
 found-on from b part d =
-    let n = firstWhere isFeed part in
+    let n = firstWhere isLineFeed part in
     let s : from + suc n ≡ from + 1 + n = omega arith in
     rw (ne-eqb b (code "\n") d, s, leb·suc-suc (suc n) (length part)) refl
 
