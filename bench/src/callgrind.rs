@@ -1,4 +1,4 @@
-// Instructions by callgrind: client requests that the tool sees while the program runs under it, and the dumps that it leaves.
+//! Instructions by callgrind: client requests that the tool sees while the program runs under it, and the dumps that it leaves.
 use std::collections::HashMap;
 use std::ffi::CString;
 use std::path::Path;

@@ -1,5 +1,7 @@
-// The rows of the table: what is measured, on which state, and the goal of each.
+//! The rows of the table: what is measured, on which state, and the goal of each.
 use crate::inputs::{apart_name, entries, log, name_of_length, prefixed_name, Log, Setup, FIRST_PID, LOG_ROOM, LONGEST_TEXT, NAME_LENGTH, TEXT, WORDS_ROOM};
+use crate::log::PLACES;
+use crate::record::FRAME_MAX;
 use crate::script::{Call, Kind, Lent};
 use crate::sides::Side;
 
@@ -26,7 +28,7 @@ const PID: u64 = FIRST_PID as u64;
 const MEBIBYTE: usize = 1 << 20;
 
 /// Calls that each change the state: one for each place, then the state is as before.
-const EACH: usize = 32;
+const EACH: usize = PLACES;
 
 /// Calls that leave the state as it is, or nearly.
 const MANY: usize = 1024;
@@ -51,7 +53,7 @@ fn opened(name: String, goal: Option<f64>, names: &[Vec<u8>], bytes: usize) -> C
 
 fn encoded(name: &str, goal: Option<f64>, text: &'static [u8], set: u64) -> Case {
     let own = prefixed_name(7);
-    let mut out = [1; 513];
+    let mut out = [1; FRAME_MAX];
     let work = move |side: &dyn Side, rounds, full: bool| side.encode(text, &own, set, if full { rounds } else { 0 }, &mut out);
     Case { name: name.into(), units: 1, goal, counted: 1000, timed: 10_000, is_call: false, work: Box::new(work) }
 }

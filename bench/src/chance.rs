@@ -1,4 +1,4 @@
-// Random numbers for what is compared; the same seed gives the same numbers.
+//! Random numbers for what is compared; the same seed gives the same numbers.
 
 /// SplitMix64: any numbers do.
 pub struct Chance(pub u64);

@@ -1,4 +1,4 @@
-// Whether both sides answer alike: random scripts of calls, and random logs, whole, cut and damaged.
+//! Whether both sides answer alike: random scripts of calls, and random logs, whole, cut and damaged.
 use crate::chance::Chance;
 use crate::inputs::TEXT;
 use crate::names::{Mapped, Searched};

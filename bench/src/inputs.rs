@@ -1,4 +1,4 @@
-// What is measured on: names, states that a script of calls leads to, logs of a given length, and entries of interleaved producers.
+//! What is measured on: names, states that a script of calls leads to, logs of a given length, and entries of interleaved producers.
 use crate::coordinator::Coordinator;
 use crate::names::Searched;
 use crate::partition::{ABORT, COMMIT, DATA, ENTRY_WORDS};

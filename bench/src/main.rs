@@ -1,9 +1,9 @@
-// The benchmark: the proved calls of the crate bench_calls against an independent implementation in Rust, in one process, on the same inputs.
-//
-//     bench                 compares the answers, takes the CPU time and prints the table
-//     bench compare         only compares, on more scripts
-//     bench count           under callgrind: leaves a dump of each measurement
-//     bench table FOLDER    as bench, with the instructions of the dumps in a folder
+//! The benchmark: the proved calls of the crate bench_calls against an independent implementation in Rust, in one process, on the same inputs.
+//!
+//!     bench                 compares the answers, takes the CPU time and prints the table
+//!     bench compare         only compares, on more scripts
+//!     bench count           under callgrind: leaves a dump of each measurement
+//!     bench table FOLDER    as bench, with the instructions of the dumps in a folder
 mod callgrind;
 mod cases;
 mod catalogue;

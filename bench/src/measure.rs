@@ -1,4 +1,4 @@
-// Measuring: each row on each side, by instructions and by CPU time, and the table.
+//! Measuring: each row on each side, by instructions and by CPU time, and the table.
 use crate::callgrind;
 use crate::cases::{cases, Case};
 use crate::clock::cpu_time;

@@ -1,4 +1,4 @@
-// How the place of a name is found: by a search through the ids, or by a map.
+//! How the place of a name is found: by a search through the ids, or by a map.
 use crate::log::Id;
 use std::collections::HashMap;
 

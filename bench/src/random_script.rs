@@ -1,4 +1,4 @@
-// Random scripts of calls: mostly what a producer or a carrier would do next, so that every call and refusal comes up.
+//! Random scripts of calls: mostly what a producer or a carrier would do next, so that every call and refusal comes up.
 use crate::chance::Chance;
 use crate::inputs::TEXT;
 use crate::names::Searched;

@@ -1,9 +1,7 @@
-// One call made many times in Rust, from a given state on, as the crate bench_calls does: with the 32 names, pids and places in turn, or with times and lengths that rise by one.
+//! One call made many times in Rust, from a given state on, as the crate bench_calls does: with the names, pids and places of all ids in turn, or with times and lengths that rise by one.
+use crate::log::PLACES;
 use crate::names::Names;
 use crate::script::{done, initialized, ordered, produced, ticked, Call, Kind, Outcome, Server};
-
-/// After so many calls the names, pids and places start again.
-const PLACES: usize = 32;
 
 /// The bytes from one name to the next.
 pub const NAME_STRIDE: usize = 32;

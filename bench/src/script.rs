@@ -1,4 +1,4 @@
-// A script of calls in Rust: each is twelve numbers, as the crate bench_calls reads them, and is made on the state that the calls before it left.
+//! A script of calls in Rust: each is twelve numbers, as the crate bench_calls reads them, and is made on the state that the calls before it left.
 use crate::coordinator::{Coordinator, Initialized, Order};
 use crate::names::Names;
 use crate::partition::Partition;
@@ -52,36 +52,36 @@ impl Call {
 pub type Outcome = [u64; 7];
 
 pub fn done(answer: Result<(), Refusal>) -> Outcome {
-    told(answer.map(|()| [0; 6]))
+    outcome(answer.map(|()| [0; 6]))
 }
 
 pub fn initialized(answer: Result<Initialized, Refusal>) -> Outcome {
-    told(answer.map(|given| match given {
+    outcome(answer.map(|given| match given {
         Initialized::Given { pid, epoch } => [pid as u64, epoch as u64, 0, 0, 0, 0],
         Initialized::Aborting => [NONE, NONE, 0, 0, 0, 0],
     }))
 }
 
 pub fn ticked(answer: Result<Option<usize>, Refusal>) -> Outcome {
-    told(answer.map(|place| [place.map_or(NONE, |place| place as u64), 0, 0, 0, 0, 0]))
+    outcome(answer.map(|place| [place.map_or(NONE, |place| place as u64), 0, 0, 0, 0, 0]))
 }
 
 pub fn ordered(answer: Option<Order>) -> Outcome {
-    told(Ok(match answer {
+    outcome(Ok(match answer {
         Some(o) => [o.place as u64, o.pid as u64, o.epoch as u64, o.verdict, o.position as u64, o.coordinator as u64],
         None => [NONE, 0, 0, 0, 0, 0],
     }))
 }
 
 pub fn produced(answer: Result<usize, Refusal>) -> Outcome {
-    told(answer.map(|offset| [offset as u64, 0, 0, 0, 0, 0]))
+    outcome(answer.map(|offset| [offset as u64, 0, 0, 0, 0, 0]))
 }
 
 pub fn copied(answer: Result<(usize, usize), Refusal>) -> Outcome {
-    told(answer.map(|(count, next)| [count as u64, next as u64, 0, 0, 0, 0]))
+    outcome(answer.map(|(count, next)| [count as u64, next as u64, 0, 0, 0, 0]))
 }
 
-fn told(answer: Result<[u64; 6], Refusal>) -> Outcome {
+fn outcome(answer: Result<[u64; 6], Refusal>) -> Outcome {
     match answer {
         Ok([a, b, c, d, e, f]) => [0, a, b, c, d, e, f],
         Err(refusal) => [u64::from(refusal.number), refusal.offset as u64, 0, 0, 0, 0, 0],

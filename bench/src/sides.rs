@@ -1,4 +1,4 @@
-// The sides that are compared and measured: the proved calls, and the Rust implementation with names searched or in a map, and with a standard or a fast hash.
+//! The sides that are compared and measured: the proved calls, and the Rust implementation with names searched or in a map, and with a standard or a fast hash.
 use crate::catalogue::Catalogue;
 use crate::coordinator::Coordinator;
 use crate::names::Names;

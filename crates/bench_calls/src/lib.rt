@@ -101,10 +101,10 @@ pub extern "C" fn bench_calls_read(
     let mut sum: u64 = 0;
     let mut k: usize = 0;
     while k < rounds {
-        let told = bench_answers::copied(calls::read(p, words, 0, out));
-        sum = std::num::wrapping_add_u64(sum, told.number);
-        sum = std::num::wrapping_add_u64(sum, told.results[0]);
-        sum = std::num::wrapping_add_u64(sum, told.results[1]);
+        let outcome = bench_answers::copied(calls::read(p, words, 0, out));
+        sum = std::num::wrapping_add_u64(sum, outcome.number);
+        sum = std::num::wrapping_add_u64(sum, outcome.results[0]);
+        sum = std::num::wrapping_add_u64(sum, outcome.results[1]);
         k += 1;
     }
     sum

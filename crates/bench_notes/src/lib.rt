@@ -1,13 +1,13 @@
 // The numbers of a script's calls, and those that are noted of their answers.
-use bench_made::Call;
-use bench_made::Made;
+use bench_server::Call;
+use bench_server::Performed;
 
 // The numbers of a call in a script, of which the last two are not used, and those that are noted of its answer.
 pub const WIDTH: usize = 12;
 
 // The call from a place of a script on; one of no kind where it is not whole.
 pub fn call_at(script: &[u64], at: usize) -> Call {
-    let mut n = [99u64; WIDTH];
+    let mut n = [bench_server::UNKNOWN; WIDTH];
     if at <= script.len() {
         if WIDTH <= script.len() - at {
             n = [
@@ -41,19 +41,19 @@ pub fn call_at(script: &[u64], at: usize) -> Call {
 }
 
 // What is noted of a call: its answer, and what the state then holds.
-pub fn noted(made: Made) -> [u64; WIDTH] {
-    let told = made.outcome;
+pub fn noted(made: Performed) -> [u64; WIDTH] {
+    let outcome = made.outcome;
     let server = made.server;
     let c = server.coordinator;
     let p = server.partition;
     [
-        told.number,
-        told.results[0],
-        told.results[1],
-        told.results[2],
-        told.results[3],
-        told.results[4],
-        told.results[5],
+        outcome.number,
+        outcome.results[0],
+        outcome.results[1],
+        outcome.results[2],
+        outcome.results[3],
+        outcome.results[4],
+        outcome.results[5],
         c.table.end as u64,
         c.flushed as u64,
         c.clock,
@@ -63,7 +63,7 @@ pub fn noted(made: Made) -> [u64; WIDTH] {
 }
 
 // Writes numbers from a place on, if there is room.
-pub fn write_note(notes: &mut [u64], at: usize, told: [u64; WIDTH]) {
+pub fn write_note(notes: &mut [u64], at: usize, note: [u64; WIDTH]) {
     if notes.len() < at {
         return;
     }
@@ -72,7 +72,7 @@ pub fn write_note(notes: &mut [u64], at: usize, told: [u64; WIDTH]) {
     }
     let mut i: usize = 0;
     while i < WIDTH {
-        notes[at + i] = told[i];
+        notes[at + i] = note[i];
         i += 1;
     }
 }

@@ -1,23 +1,20 @@
-// One call made many times, from a given state on: with the 32 names, pids and places in turn, or with times and lengths that rise by one. Each function answers a sum of what was answered.
+// One call made many times, from a given state on: with the names, pids and places of all ids in turn, or with times and lengths that rise by one. Each function answers a sum of what was answered.
 use answers::Answer;
 use bench_answers::Outcome;
-use bench_made::Call;
-use bench_made::Server;
+use bench_server::Call;
+use bench_server::Server;
 use coordinator::Coordinator;
 use partition::Partition;
 ghost use Prim.Native.Nat.{_≤_};
-
-// After so many calls the names, pids and places start again.
-const PLACES: usize = 32;
 
 // The bytes from one name to the next.
 const NAME_STRIDE: usize = 32;
 
 // A sum of answers with one more.
-fn with_outcome(sum: u64, told: Outcome) -> u64 {
-    let number = std::num::wrapping_add_u64(sum, told.number);
-    let first = std::num::wrapping_add_u64(number, told.results[0]);
-    std::num::wrapping_add_u64(first, told.results[1])
+fn with_outcome(sum: u64, outcome: Outcome) -> u64 {
+    let number = std::num::wrapping_add_u64(sum, outcome.number);
+    let first = std::num::wrapping_add_u64(number, outcome.results[0]);
+    std::num::wrapping_add_u64(first, outcome.results[1])
 }
 
 // A sum of answers with one more that has no results.
@@ -44,7 +41,7 @@ fn plus(x: u64, i: usize) -> usize {
 
 // A signed number of a call that is higher by an index.
 fn signed_plus(x: u64, i: usize) -> i64 {
-    bench_made::signed_64(std::num::wrapping_add_u64(x, i as u64))
+    bench_server::signed_64(std::num::wrapping_add_u64(x, i as u64))
 }
 
 fn lesser(a: usize, b: usize) -> usize
@@ -72,13 +69,13 @@ fn name_at(names: &[u8], i: usize, length: usize) -> &[u8] {
 
 // Init of one name after the other.
 fn init(c: Coordinator, call: Call, count: usize, names: &[u8], log: &mut [u8]) -> u64 {
-    let timeout = bench_made::signed_32(call.first);
-    let time = bench_made::signed_64(call.second);
+    let timeout = bench_server::signed_32(call.first);
+    let time = bench_server::signed_64(call.second);
     let mut s = c;
     let mut sum: u64 = 0;
     let mut i: usize = 0;
     while i < count {
-        let k = i % PLACES;
+        let k = i % answers::PLACES;
         let name = name_at(names, k, call.to);
         let made = calls::init(s, log, name, timeout, time);
         let answer = made.answer;
@@ -91,13 +88,13 @@ fn init(c: Coordinator, call: Call, count: usize, names: &[u8], log: &mut [u8]) 
 
 // Add of one name after the other.
 fn add(c: Coordinator, call: Call, count: usize, names: &[u8], log: &mut [u8]) -> u64 {
-    let epoch = bench_made::signed_16(call.second);
-    let time = bench_made::signed_64(call.fourth);
+    let epoch = bench_server::signed_16(call.second);
+    let time = bench_server::signed_64(call.fourth);
     let mut s = c;
     let mut sum: u64 = 0;
     let mut i: usize = 0;
     while i < count {
-        let k = i % PLACES;
+        let k = i % answers::PLACES;
         let name = name_at(names, k, call.to);
         let pid = signed_plus(call.first, k);
         let made = calls::add(s, log, name, pid, epoch, call.third, time);
@@ -111,13 +108,13 @@ fn add(c: Coordinator, call: Call, count: usize, names: &[u8], log: &mut [u8]) -
 
 // End of one name after the other.
 fn end(c: Coordinator, call: Call, count: usize, names: &[u8], log: &mut [u8]) -> u64 {
-    let epoch = bench_made::signed_16(call.second);
-    let time = bench_made::signed_64(call.fourth);
+    let epoch = bench_server::signed_16(call.second);
+    let time = bench_server::signed_64(call.fourth);
     let mut s = c;
     let mut sum: u64 = 0;
     let mut i: usize = 0;
     while i < count {
-        let k = i % PLACES;
+        let k = i % answers::PLACES;
         let name = name_at(names, k, call.to);
         let pid = signed_plus(call.first, k);
         let made = calls::end(s, log, name, pid, epoch, call.third, time);
@@ -177,13 +174,13 @@ fn order(c: Coordinator, call: Call, count: usize) -> u64 {
 
 // Ack of one place after the other.
 fn ack(c: Coordinator, call: Call, count: usize, log: &mut [u8]) -> u64 {
-    let epoch = bench_made::signed_16(call.third);
+    let epoch = bench_server::signed_16(call.third);
     let position = call.fourth as usize;
     let mut s = c;
     let mut sum: u64 = 0;
     let mut i: usize = 0;
     while i < count {
-        let k = i % PLACES;
+        let k = i % answers::PLACES;
         let place = plus(call.first, k);
         let pid = signed_plus(call.second, k);
         let made = calls::ack(s, log, place, pid, epoch, position);
@@ -204,14 +201,14 @@ fn produce(
     names: &[u8],
     words: &mut [u64],
 ) -> u64 {
-    let epoch = bench_made::signed_16(call.second);
+    let epoch = bench_server::signed_16(call.second);
     let position = call.third as usize;
-    let sequence = bench_made::signed_32(call.fourth);
+    let sequence = bench_server::signed_32(call.fourth);
     let mut s = p;
     let mut sum: u64 = 0;
     let mut i: usize = 0;
     while i < count {
-        let k = i % PLACES;
+        let k = i % answers::PLACES;
         let name = name_at(names, k, call.to);
         let pid = signed_plus(call.first, k);
         let made = calls::produce(
@@ -235,13 +232,13 @@ fn produce(
 
 // Marker of one place after the other.
 fn marker(p: Partition, call: Call, count: usize, words: &mut [u64]) -> u64 {
-    let epoch = bench_made::signed_16(call.third);
-    let leader = bench_made::signed_32(call.fifth);
+    let epoch = bench_server::signed_16(call.third);
+    let leader = bench_server::signed_32(call.fifth);
     let mut s = p;
     let mut sum: u64 = 0;
     let mut i: usize = 0;
     while i < count {
-        let k = i % PLACES;
+        let k = i % answers::PLACES;
         let place = plus(call.first, k);
         let pid = signed_plus(call.second, k);
         let made = calls::marker(s, words, place, pid, epoch, call.fourth, leader);
@@ -266,15 +263,15 @@ fn round(
     let p = server.partition;
     let kind = call.kind;
     match kind {
-        2 => init(c, call, count, names, log),
-        3 => add(c, call, count, names, log),
-        4 => end(c, call, count, names, log),
-        5 => tick(c, call, count, log),
-        6 => flush(c, call, count),
-        7 => order(c, call, count),
-        8 => ack(c, call, count, log),
-        9 => produce(c, p, call, count, names, words),
-        10 => marker(p, call, count, words),
+        bench_server::INIT => init(c, call, count, names, log),
+        bench_server::ADD => add(c, call, count, names, log),
+        bench_server::END => end(c, call, count, names, log),
+        bench_server::TICK => tick(c, call, count, log),
+        bench_server::FLUSH => flush(c, call, count),
+        bench_server::ORDER => order(c, call, count),
+        bench_server::ACK => ack(c, call, count, log),
+        bench_server::PRODUCE => produce(c, p, call, count, names, words),
+        bench_server::MARKER => marker(p, call, count, words),
         _ => 0,
     }
 }
@@ -292,8 +289,8 @@ pub fn repeat(
     let mut sum: u64 = 0;
     let mut k: usize = 0;
     while k < rounds {
-        let told = round(server, call, count, names, log, words);
-        sum = std::num::wrapping_add_u64(sum, told);
+        let answered = round(server, call, count, names, log, words);
+        sum = std::num::wrapping_add_u64(sum, answered);
         k += 1;
     }
     sum

@@ -100,7 +100,7 @@ pub fn opened(answer: OpenAnswer) {
     match answer {
         OpenAnswer::Opened => natural(0),
         OpenAnswer::BadLog(at) => {
-            refused(6);
+            refused(answers::INVALID_LOG);
             natural(at as u64);
         }
         OpenAnswer::Refused(number) => refused(number),

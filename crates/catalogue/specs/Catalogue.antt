@@ -7,6 +7,7 @@ use lib.Dec.{eqb, leb}
 use lib.ListN.{length, getD, take, drop, replicate}
 use Rattle.numbers.specs.Bytes.{overwrite, same}
 use Rattle.numbers.specs.Padded.{untilZero}
+use Rattle.answers.specs.Numbers.{invalidCatalogue}
 use Rattle.catalogue.specs.Limits.{topicsMax, topicNameMax, partitionsMax}
 use Rattle.catalogue.specs.declared.Catalogue.{Catalogue}
 use Rattle.catalogue.specs.declared.Parsed.{Parsed}
@@ -107,7 +108,7 @@ accepted c = record { refusal = 0; catalogue = c }
 
 -- refusal 5: "catalogue"
 abbrev pub refused : Parsed
-refused = record { refusal = 5; catalogue = blank }
+refused = record { refusal = invalidCatalogue; catalogue = blank }
 
 -- the lines of a text, of which t were read and at most k more may come
 unfoldable pub lines : ℕ → ℕ → Catalogue → List ℕ → Parsed

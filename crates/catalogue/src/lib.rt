@@ -139,7 +139,7 @@ fn refused() -> Parsed
     ensures { λ r. ⌜ r ≡ refused ⌝ }
 {
     Parsed {
-        refusal: 5,
+        refusal: answers::INVALID_CATALOGUE,
         catalogue: blank(),
     }
 }

@@ -20,18 +20,12 @@ use Rattle.coordinator.specs.Ack.{ack}
 use Rattle.coordinator.specs.declared.Coordinator.{Coordinator}
 
 pub data CoordinatorCall : Type 0 where
-  -- name, timeout, time
-  initCall : List ℕ → ℤ → ℤ → CoordinatorCall
-  -- name, pid, epoch, set, time
-  addCall : List ℕ → ℤ → ℤ → ℕ → ℤ → CoordinatorCall
-  -- name, pid, epoch, verdict, time
-  endCall : List ℕ → ℤ → ℤ → ℕ → ℤ → CoordinatorCall
-  -- time
-  tickCall : ℤ → CoordinatorCall
-  -- length
-  flushCall : ℕ → CoordinatorCall
-  -- place, pid, epoch, position
-  ackCall : ℕ → ℤ → ℤ → ℕ → CoordinatorCall
+  initCall : (name : List ℕ) (timeout time : ℤ) → CoordinatorCall
+  addCall : (name : List ℕ) (pid epoch : ℤ) (set : ℕ) (time : ℤ) → CoordinatorCall
+  endCall : (name : List ℕ) (pid epoch : ℤ) (verdict : ℕ) (time : ℤ) → CoordinatorCall
+  tickCall : (time : ℤ) → CoordinatorCall
+  flushCall : (length : ℕ) → CoordinatorCall
+  ackCall : (place : ℕ) (pid epoch : ℤ) (position : ℕ) → CoordinatorCall
 
 -- document 01: "producer id (pid, i64), epoch (i16)", "the time given (i64)", "a set is a u64"; a timeout is an int32 of the record. A call by a producer or
 -- by the clock has no other arguments; Flush and Ack are judged on any numbers.

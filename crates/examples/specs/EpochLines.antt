@@ -3,8 +3,8 @@ use mathlib.Core.List.{List, [], _∷_, _++_}
 use lib.IntN.{pos, negsuc}
 use Rattle.record.specs.declared.Status.the-variants.{Empty, CompleteCommit, CompleteAbort}
 use Rattle.partition.specs.Partition.{noProducer}
-use Rattle.server.specs.Calls.{Call, openWords, orderCall, produceCall, markerCall}
-use Rattle.server.specs.Lines.{Line, line, lineFrom, writes, rig7, put}
+use Rattle.server.specs.Calls.{Call, orderCall, produceCall, markerCall}
+use Rattle.server.specs.Lines.{Line, line, lineFrom, writes, rig7}
 use Rattle.examples.specs.Starts.{reopened, holds7, initAt, addAt, endAt, ackAt, tickAt, flushed, rigTable, beginTable, holding, from, tight, closedProducer}
 use Rattle.examples.specs.Held.{HeldLine, heldFrom, held7, tableHeld7}
 

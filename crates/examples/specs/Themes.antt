@@ -1,5 +1,5 @@
 -- The lines by theme: answers of the last call, and what is held after the calls.
-use mathlib.Core.List.{List, [], _++_}
+use mathlib.Core.List.{List, _++_}
 use Rattle.server.specs.Lines.{Line}
 use Rattle.examples.specs.Held.{HeldLine}
 use Rattle.examples.specs.EpochLines.{epochLines, epochHeld}

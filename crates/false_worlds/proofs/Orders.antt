@@ -1,13 +1,12 @@
 -- In none of these worlds are orders and markers as demand 3 has them.
 use mathlib.Core.Path.{refl}
-use mathlib.Core.Bool.{Bool, not}
-use mathlib.Core.Option.{Option, none, some}
+use mathlib.Core.Option.{none}
 use lib.IntN.{pos}
 use Rattle.numbers.specs.Bytes.{same}
 use Rattle.search.specs.Search.{find, findLast, countWhere, isFound}
-use Rattle.runs.specs.History.{Logged, recordsOf, endingBy, flushedOf, collect, collectWithBefore, nextOf}
+use Rattle.runs.specs.History.{recordsOf, flushedOf, collect, collectWithBefore, nextOf}
 use Rattle.runs.specs.Demand3.{ForFlushedPrepare, OfLastOpening, OneMarker, HoldsAt}
-use Rattle.false_worlds.specs.Made.{prepare}
+use Rattle.false_worlds.specs.Histories.{prepare}
 use Rattle.false_worlds.specs.Orders.{Misordered, noRecord, notPrepared, unflushed, overtaken, orderOfPid, orderOfEpoch, orderOfVerdict, outside, misordered, given, marked, OtherOpening, alwaysOne, keptFromBefore, ahead, afterOpenings, Repeated, markedTwice, markedAgain, repeated}
 use Rattle.false_worlds.proofs.Differ.{apart, differ, differ-signed, fails}
 

@@ -8,11 +8,11 @@ use Rattle.record.specs.declared.Record.{Record}
 use Rattle.runs.specs.History.{recordsOf, flushedOf}
 use Rattle.runs.specs.World.{run}
 use Rattle.runs.specs.Demand3.{Kept, Promised}
-use Rattle.false_worlds.specs.Made.{prepare, told}
+use Rattle.false_worlds.specs.Histories.{prepare, withHistory}
 use Rattle.false_worlds.specs.Prepares.{Lost, gone, otherVerdict, otherPid, otherEpoch, fewerPartitions, otherUpdate, abortedLate, completedAsAbort, begunAgain, completedByPid, completedByEpoch, lostIn}
 use Rattle.false_worlds.proofs.Differ.{differ, differ-signed}
 
-pub not-kept : (x : Lost) → Kept (told (lostIn x)) prepare → ⊥
+pub not-kept : (x : Lost) → Kept (withHistory (lostIn x)) prepare → ⊥
 unfolding find findLast recordsOf same
 not-kept gone = λ k. k .stands
 not-kept otherVerdict = λ k. differ 3 2 refl refl (k .stands .verdict)
@@ -27,6 +27,6 @@ not-kept completedByPid = λ k. differ-signed (pos 1001) (pos 1000) refl refl (k
 not-kept completedByEpoch = λ k. differ-signed (pos 1) (pos 0) refl refl (k .next .epoch)
 
 -- at the end of a list a prepare that was flushed then is to be kept: not if another record has overtaken it
-pub not-promised : Promised (told (lostIn abortedLate)) [] → ⊥
+pub not-promised : Promised (withHistory (lostIn abortedLate)) [] → ⊥
 unfolding run filter find findLast recordsOf flushedOf same
 not-promised = λ p. let (here, rest) = p .kept in differ 3 4 refl refl (here .next .status)

@@ -1,6 +1,5 @@
 -- In none of these worlds is there progress; what disturbs a carrying, and what does not.
 use mathlib.Core.Path.{refl}
-use mathlib.Core.List.{[]}
 use lib.IntN.{pos}
 use borrow.Author.Tests.{leb-true}
 use lib.Count.{trailingZeros}
@@ -24,7 +23,7 @@ use Rattle.table.specs.Table.{placeOf, lowestFree, reserved, apply}
 use Rattle.log_reader.specs.Read.{readTests}
 use Rattle.log_reader.specs.Records.{framesOf}
 use Rattle.log_reader.specs.Scan.{scan}
-use Rattle.coordinator.specs.Coordinator.{admits, appended, acknowledged}
+use Rattle.coordinator.specs.Coordinator.{admits}
 use Rattle.coordinator.specs.Open.{takeOverTests, openTests, opening}
 use Rattle.coordinator.specs.Order.{ordered, orderPlace, order}
 use Rattle.coordinator.specs.Ack.{ackRowTests, ackTests, ackAction, ack}
@@ -34,8 +33,8 @@ use Rattle.runs.specs.History.{recordsOf, flushedOf, collect}
 use Rattle.runs.specs.World.{run}
 use Rattle.runs.specs.Completing.{AllCompleted}
 use Rattle.runs.specs.Demand3.{OrdersGiven, CarryingAccepted, Undisturbed, CompletesInTime, Restarts, HoldsAt, Promised}
-use Rattle.false_worlds.specs.Made.{committing, told}
-use Rattle.false_worlds.specs.Progress.{NoOrder, forgotten, takenForUnflushed, takenForAcknowledged, higherPlace, withoutOrder, NotAccepted, stale, fenced, ackElsewhere, ackUnflushed, ackDown, notAccepted, notesNothing, carriesIt, NotAll, notCarried, notCompleted, notAll, Disturbance, cutBetween, partitionDown, allDown, otherSliceDelivered, otherSliceAcknowledged, disturbing, Calm, called, lentAnother, allUp, moreUp, produced, read, deliveredOwn, acknowledgedOwn, reopened, calm, NoRestart, badLog, tooLittleRoom, pastBuffer, noRestart}
+use Rattle.false_worlds.specs.Histories.{committing, withHistory}
+use Rattle.false_worlds.specs.Progress.{NoOrder, forgotten, takenForUnflushed, takenForAcknowledged, higherPlace, withoutOrder, NotAccepted, stale, fenced, ackElsewhere, ackUnflushed, ackDown, notAccepted, notesNothing, carriesIt, NotAll, notCarried, notCompleted, notAll, Disturbance, cutBetween, partitionDown, allDown, otherSliceDelivered, otherSliceAcknowledged, disturbing, NotDisturbing, called, lentAnother, allUp, moreUp, produced, read, deliveredOwn, acknowledgedOwn, reopened, notDisturbing, NoRestart, badLog, tooLittleRoom, pastBuffer, noRestart}
 use Rattle.false_worlds.proofs.Differ.{differ, fails}
 
 pub no-order-given : (x : NoOrder) → OrdersGiven (withoutOrder x .phase) (withoutOrder x) → ⊥
@@ -60,7 +59,7 @@ disturbed allDown = λ k. fails k
 disturbed otherSliceDelivered = λ k. k
 disturbed otherSliceAcknowledged = λ k. k
 
-pub undisturbed : (x : Calm) → Undisturbed 3 (calm x)
+pub undisturbed : (x : NotDisturbing) → Undisturbed 3 (notDisturbing x)
 undisturbed called = tt
 undisturbed lentAnother = tt
 undisturbed allUp = refl
@@ -95,7 +94,7 @@ restart-not-held x = λ h. not-restarting x (h .restarts)
 pub time-not-promised : Promised notesNothing carriesIt → ⊥
 time-not-promised = λ p. not-in-time (p .completes-in-time)
 
-pub not-all-completed : (x : NotAll) → AllCompleted (told committing) (notAll x) 1 → ⊥
+pub not-all-completed : (x : NotAll) → AllCompleted (withHistory committing) (notAll x) 1 → ⊥
 unfolding same find findLast filter recordsOf flushedOf collect
 not-all-completed notCarried = λ k. differ 0 1 refl refl (k .carried)
 not-all-completed notCompleted = λ k. let (here, rest) = k .completed in fails here

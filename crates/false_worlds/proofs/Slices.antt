@@ -1,6 +1,5 @@
 -- In none of these worlds is refusal 8 for other lengths alone, or Read right.
 use mathlib.Core.Path.{refl}
-use mathlib.Core.Bool.{Bool}
 use mathlib.Core.List.{[], _∷_}
 use lib.IntN.{pos}
 use lib.ListN.{getD}

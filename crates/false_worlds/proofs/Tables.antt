@@ -36,8 +36,8 @@ use Rattle.writable_logs.specs.RecordsSay.{hasName, namesOf, reserveOf, greates
 use Rattle.writable_logs.specs.Writer.{CouldWrite}
 use Rattle.writable_logs.specs.Demand2.{Openable, InOrder, StartsWith, HoldsLatest, HoldsNoOther, ReadsBack, OpensAgain, TableSays}
 use Rattle.server.specs.Lines.{scanText, lab3}
-use Rattle.false_worlds.specs.Made.{name7}
-use Rattle.false_worlds.specs.Tables.{scans, name3, empty7, begin7, bothRecords, Misplaced, swapped, fromTheEnd, placeTwice, placeLeftOut, misplaced, Misnumbered, pidGivenAgain, oldUpdate, tornEnd, misnumbered, begunRecords, NotLatest, firstRecord, otherLogEnd, takenAsAcknowledged, notHeld, notLatest, inventedName, Unreadable, timeoutZero, negativePid, startInEmpty, setInEmpty, noSetInBegin, partitionDropped, unreadable, NotOpenable, otherBytes, badRest, wholeRest, bytesOf, restOf, recordsIn, OutOfOrder, noCatalogue, lengthPast, negativeEpoch, negativeFirst, lastBelowFirst, outOfOrder, ShutOut, writtenBad, notFollowing, tooLittleRoom, otherSlice, ownSlice, shutOut, Saying, sayings}
+use Rattle.false_worlds.specs.Histories.{name7}
+use Rattle.false_worlds.specs.Tables.{scans, name3, empty7, begin7, bothRecords, Misplaced, swapped, fromTheEnd, placeTwice, placeLeftOut, misplaced, Misnumbered, pidGivenAgain, oldUpdate, tornEnd, misnumbered, begunRecords, NotLatest, firstRecord, otherLogEnd, takenAsAcknowledged, notHeld, notLatest, inventedName, Unreadable, timeoutZero, negativePid, startInEmpty, setInEmpty, noSetInBegin, partitionDropped, unreadable, NotOpenable, otherBytes, badRest, wholeRest, bytesOf, restOf, recordsIn, OutOfOrder, noCatalogue, lengthPast, negativeEpoch, negativeFirst, lastBelowFirst, outOfOrder, NotReopened, writtenBad, notFollowing, tooLittleRoom, otherSlice, ownSlice, notReopened, Saying, sayings}
 use Rattle.false_worlds.proofs.Differ.{differ, differ-lists, fails, passes, above}
 
 pub not-by-appearance : (x : Misplaced) → PlacesByAppearance bothRecords (misplaced x) → ⊥
@@ -112,7 +112,7 @@ not-in-order negativeEpoch = λ k. passes (k .numbers)
 not-in-order negativeFirst = λ k. passes (k .numbers)
 not-in-order lastBelowFirst = λ k. passes (k .numbers)
 
-pub not-opening-again : (x : ShutOut) → OpensAgain scanText (shutOut x) → ⊥
+pub not-opening-again : (x : NotReopened) → OpensAgain scanText (notReopened x) → ⊥
 unfolding framesOf sumOf reserved admits scan readTests takeOverTests openTests opening firstRefusal firstWhere placeOf lowestFree apply succeeds mayCome mayFollowStatus first initializes begins widens preparesCommit preparesAbort completes keeps follows readFrame judged candidate wellFormed validName fieldsFit joinedFits startFits integerOf numberFrom walk past topicAt nameStands partitionsAt partitionsOf partitionsBelow withPartition nameBytes nameFits ones overwrite same bigEndian integerBytes untilZero members nameByte nameRun isLine lineAt isNew catalogueLines parse key partitionBytes topicEntry topicBytes topicsBelow countBelow topics value frame
 not-opening-again writtenBad = λ k.
     let e = k .opens 8 (pos 0) (pos 0) (pos 0) (leb-true 0 8 refl) (leb-true 8 8 refl) refl in

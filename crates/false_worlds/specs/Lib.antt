@@ -1,5 +1,5 @@
 -- Definitions of the crate false_worlds.
-pub mod Made
+pub mod Histories
 pub mod Prepares
 pub mod Logs
 pub mod Words

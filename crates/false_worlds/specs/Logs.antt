@@ -1,11 +1,11 @@
 -- Worlds in which the log is not the history's, one for each way.
-use mathlib.Core.List.{List, [], _∷_}
+use mathlib.Core.List.{[], _∷_}
 use lib.IntN.{pos}
 use lib.ListN.{replicate}
 use Rattle.record.specs.declared.Status.the-variants.{Empty}
 use Rattle.runs.specs.History.{recordAppended, logFlushed, logCut, logOpened}
 use Rattle.runs.specs.World.{World, up, down, nothing}
-use Rattle.false_worlds.specs.Made.{recordOf7, state, worldOf}
+use Rattle.false_worlds.specs.Histories.{recordOf7, state, worldOf}
 
 pub data Disagrees : Type 0 where
   -- the bytes are not those of the record; the record ends elsewhere than its frame

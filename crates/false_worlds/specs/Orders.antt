@@ -1,11 +1,10 @@
 -- Worlds whose orders or markers are not for a flushed prepare, of another opening, or one too many, one for each way.
-use Prim.Native.Nat.{ℕ}
-use mathlib.Core.List.{List, [], _∷_}
+use mathlib.Core.List.{[], _∷_}
 use lib.IntN.{pos}
-use Rattle.record.specs.declared.Status.the-variants.{Begin, PrepareCommit, CompleteCommit}
-use Rattle.runs.specs.History.{Order, History, recordAppended, logFlushed, logCut, logOpened, orderGiven, markerWritten, WithBefore}
+use Rattle.record.specs.declared.Status.the-variants.{CompleteCommit}
+use Rattle.runs.specs.History.{Order, recordAppended, logCut, logOpened, orderGiven, markerWritten, WithBefore}
 use Rattle.runs.specs.World.{World}
-use Rattle.false_worlds.specs.Made.{recordOf7, begun, commits, committing, followed, order7, told}
+use Rattle.false_worlds.specs.Histories.{recordOf7, begun, commits, committing, followed, order7, withHistory}
 
 pub data Misordered : Type 0 where
   -- there is no such record; it is a BEGIN
@@ -30,10 +29,10 @@ misordered outside = record { what = order7 3 1000 0 0 2; before = committing }
 
 -- it was given, or its marker written
 abbrev pub given : WithBefore Order → World
-given p = told (orderGiven (p .what) ∷ p .before)
+given p = withHistory (orderGiven (p .what) ∷ p .before)
 
 abbrev pub marked : WithBefore Order → World
-marked p = told (markerWritten (p .what) ∷ p .before)
+marked p = withHistory (markerWritten (p .what) ∷ p .before)
 
 pub data OtherOpening : Type 0 where
   -- orders always carry 1; the coordinator epoch from before a cut is kept; one that no opening had
@@ -41,15 +40,15 @@ pub data OtherOpening : Type 0 where
 
 -- an order with coordinator epoch 1 after these events
 abbrev pub afterOpenings : OtherOpening → World
-afterOpenings alwaysOne = told (orderGiven (order7 0 1000 0 0 0) ∷ logOpened (pos 5) ∷ [])
-afterOpenings keptFromBefore = told (orderGiven (order7 3 1000 0 0 0) ∷ logOpened (pos 2) ∷ logCut 190 ∷ committing)
-afterOpenings ahead = told (orderGiven (order7 0 1000 0 0 0) ∷ logOpened (pos 0) ∷ [])
+afterOpenings alwaysOne = withHistory (orderGiven (order7 0 1000 0 0 0) ∷ logOpened (pos 5) ∷ [])
+afterOpenings keptFromBefore = withHistory (orderGiven (order7 3 1000 0 0 0) ∷ logOpened (pos 2) ∷ logCut 190 ∷ committing)
+afterOpenings ahead = withHistory (orderGiven (order7 0 1000 0 0 0) ∷ logOpened (pos 0) ∷ [])
 
 pub data Repeated : Type 0 where
   -- the same order's marker is written twice, or again for a second order after a cut
   markedTwice markedAgain : Repeated
 
 abbrev pub repeated : Repeated → World
-repeated markedTwice = told (markerWritten (order7 3 1000 0 0 0) ∷ markerWritten (order7 3 1000 0 0 0) ∷ committing)
+repeated markedTwice = withHistory (markerWritten (order7 3 1000 0 0 0) ∷ markerWritten (order7 3 1000 0 0 0) ∷ committing)
 repeated markedAgain =
-    told (markerWritten (order7 3 1000 0 0 1) ∷ logOpened (pos 2) ∷ logCut 190 ∷ markerWritten (order7 3 1000 0 0 0) ∷ markerWritten (order7 3 1000 0 0 1) ∷ committing)
+    withHistory (markerWritten (order7 3 1000 0 0 1) ∷ logOpened (pos 2) ∷ logCut 190 ∷ markerWritten (order7 3 1000 0 0 0) ∷ markerWritten (order7 3 1000 0 0 1) ∷ committing)

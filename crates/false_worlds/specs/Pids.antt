@@ -8,7 +8,7 @@ use Rattle.record.specs.Limits.{nameMax}
 use Rattle.record.specs.declared.Record.{Record}
 use Rattle.record.specs.declared.Status.the-variants.{Empty}
 use Rattle.runs.specs.History.{History, recordAppended, logOpened}
-use Rattle.false_worlds.specs.Made.{name7}
+use Rattle.false_worlds.specs.Histories.{name7}
 
 pub data GivenAgain : Type 0 where
   -- to another name, or to the same

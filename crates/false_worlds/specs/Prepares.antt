@@ -1,7 +1,7 @@
 -- Worlds in which a flushed prepare is not kept, one for each way to lose it.
 use Rattle.record.specs.declared.Status.the-variants.{Begin, PrepareCommit, PrepareAbort, CompleteCommit, CompleteAbort}
 use Rattle.runs.specs.History.{History}
-use Rattle.false_worlds.specs.Made.{recordAt, recordOf7, begun, then, followed}
+use Rattle.false_worlds.specs.Histories.{recordAt, recordOf7, begun, then, followed}
 
 pub data Lost : Type 0 where
   -- the record is gone, or stands with another verdict, pid, epoch, set or last update

@@ -14,7 +14,7 @@ use Rattle.partition.specs.declared.Producer.{Producer}
 use Rattle.server.specs.Lines.{rig7, scanText}
 use Rattle.runs.specs.History.{recordAppended, orderCarried}
 use Rattle.runs.specs.World.{up, down, nothing, toDeliver, toAcknowledge, World, own, another, Item, call, callOrder, callProduce, callRead, deliver, acknowledge, cut, reopen}
-use Rattle.false_worlds.specs.Made.{recordAt, recordOf7, committing, then, order7, state, rowIn, leaderOf, worldOf}
+use Rattle.false_worlds.specs.Histories.{recordAt, recordOf7, committing, then, order7, state, rowIn, leaderOf, worldOf}
 
 pub data NoOrder : Type 0 where
   -- an Order that says none over a flushed prepare, because the table does not have it, takes it for unflushed, or for acknowledged
@@ -75,19 +75,19 @@ disturbing allDown = callOrder 4
 disturbing otherSliceDelivered = deliver (another []) 5
 disturbing otherSliceAcknowledged = acknowledge (another []) 5
 
-pub data Calm : Type 0 where
-  called lentAnother allUp moreUp produced read deliveredOwn acknowledgedOwn reopened : Calm
+pub data NotDisturbing : Type 0 where
+  called lentAnother allUp moreUp produced read deliveredOwn acknowledgedOwn reopened : NotDisturbing
 
-abbrev pub calm : Calm → Item
-calm called = call own (initCall rig7 (pos 50) (pos 100))
-calm lentAnother = call (another []) (initCall rig7 (pos 50) (pos 100))
-calm allUp = callOrder 3
-calm moreUp = callOrder 7
-calm produced = callProduce (another []) 0 rig7 (pos 1000) (pos 0) 0 (pos 0) 501
-calm read = callRead (another []) 0 0 []
-calm deliveredOwn = deliver own 5
-calm acknowledgedOwn = acknowledge own 5
-calm reopened = reopen (pos 2) (pos 1000) (pos 1999)
+abbrev pub notDisturbing : NotDisturbing → Item
+notDisturbing called = call own (initCall rig7 (pos 50) (pos 100))
+notDisturbing lentAnother = call (another []) (initCall rig7 (pos 50) (pos 100))
+notDisturbing allUp = callOrder 3
+notDisturbing moreUp = callOrder 7
+notDisturbing produced = callProduce (another []) 0 rig7 (pos 1000) (pos 0) 0 (pos 0) 501
+notDisturbing read = callRead (another []) 0 0 []
+notDisturbing deliveredOwn = deliver own 5
+notDisturbing acknowledgedOwn = acknowledge own 5
+notDisturbing reopened = reopen (pos 2) (pos 1000) (pos 1999)
 
 -- ---- restart
 

@@ -7,8 +7,8 @@ use Rattle.record.specs.declared.Status.the-variants.{Begin}
 use Rattle.coordinator.specs.Open.{blankState}
 use Rattle.partition.specs.declared.Producer.{Producer}
 use Rattle.runs.specs.History.{History, markerWritten, entryWritten}
-use Rattle.runs.specs.World.{Leader, World, up, nothing}
-use Rattle.false_worlds.specs.Made.{begun, order7, entry7, state, rowIn, leaderOf, worldOf}
+use Rattle.runs.specs.World.{World, up, nothing}
+use Rattle.false_worlds.specs.Histories.{begun, order7, entry7, state, rowIn, leaderOf, worldOf}
 
 pub data WrongSlice : Type 0 where
   -- a log buffer of another length is taken; its own is refused because the reserve is spent

@@ -4,7 +4,7 @@ use mathlib.Core.List.{List, [], _∷_}
 use Rattle.record.specs.declared.Record.{Record}
 use Rattle.record.specs.declared.Status.the-variants.{Begin, PrepareCommit, CompleteCommit, CompleteAbort}
 use Rattle.log_reader.specs.Records.{framesOf}
-use Rattle.false_worlds.specs.Made.{recordAt}
+use Rattle.false_worlds.specs.Histories.{recordAt}
 use Rattle.false_worlds.specs.Tables.{scans, empty7, given3}
 
 -- EMPTY of `rig7` and its BEGIN of one partition, both at 110

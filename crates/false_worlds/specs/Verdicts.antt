@@ -5,7 +5,7 @@ use Rattle.record.specs.declared.Status.the-variants.{PrepareCommit, PrepareAbo
 use Rattle.record.specs.declared.Status.{Status}
 use Rattle.runs.specs.History.{Event, History, recordAppended, logFlushed, markerWritten, entryWritten}
 use Rattle.runs.specs.World.{World}
-use Rattle.false_worlds.specs.Made.{recordOf7, begun, order7, entry7, told}
+use Rattle.false_worlds.specs.Histories.{recordOf7, begun, order7, entry7, withHistory}
 
 pub data Misjudged : Type 0 where
   -- a Marker that writes nothing, for a commit and for an abort
@@ -32,14 +32,14 @@ abbrev pub marker : ℕ → ℕ → ℕ → List Event
 marker pid verdict position = markerWritten (order7 4 pid 0 verdict position) ∷ []
 
 abbrev pub misjudged : Misjudged → World
-misjudged noCommit = told (completing PrepareCommit [] CompleteCommit)
-misjudged noAbort = told (completing PrepareAbort [] CompleteAbort)
-misjudged abortOverCommit = told (completing PrepareCommit (marker 1000 1 0) CompleteCommit)
-misjudged commitOverAbort = told (completing PrepareAbort (marker 1000 0 0) CompleteAbort)
-misjudged oneEarly = told (completing PrepareCommit (marker 1000 0 1) CompleteCommit)
-misjudged markerOfPid = told (completing PrepareCommit (marker 1001 0 0) CompleteCommit)
+misjudged noCommit = withHistory (completing PrepareCommit [] CompleteCommit)
+misjudged noAbort = withHistory (completing PrepareAbort [] CompleteAbort)
+misjudged abortOverCommit = withHistory (completing PrepareCommit (marker 1000 1 0) CompleteCommit)
+misjudged commitOverAbort = withHistory (completing PrepareAbort (marker 1000 0 0) CompleteAbort)
+misjudged oneEarly = withHistory (completing PrepareCommit (marker 1000 0 1) CompleteCommit)
+misjudged markerOfPid = withHistory (completing PrepareCommit (marker 1001 0 0) CompleteCommit)
 misjudged markerBefore =
-    told
+    withHistory
     (recordAppended (recordOf7 CompleteCommit 1000 0 0) 260 ∷
     logFlushed 190 ∷
     recordAppended (recordOf7 PrepareCommit 1000 0 3) 190 ∷

@@ -2,11 +2,11 @@
 use Prim.Native.Nat.{ℕ}
 use mathlib.Core.List.{List, [], _∷_}
 use lib.IntN.{pos}
-use Rattle.record.specs.declared.Status.the-variants.{Empty, Begin, PrepareCommit}
+use Rattle.record.specs.declared.Status.the-variants.{Empty, Begin}
 use Rattle.runs.specs.History.{History, recordAppended, logFlushed, logOpened, markerWritten, entryWritten}
 use Rattle.runs.specs.World.{Leader, World, up, nothing}
 use Rattle.coordinator.specs.Open.{blankState}
-use Rattle.false_worlds.specs.Made.{recordOf7, begun, committing, order7, entry7, leaderOf, worldOf, told}
+use Rattle.false_worlds.specs.Histories.{recordOf7, begun, committing, order7, entry7, leaderOf, worldOf, withHistory}
 
 pub data WrongWords : Type 0 where
   -- a Marker wrote COMMIT for an abort, or another epoch or coordinator epoch; no entry was written, one that nobody asked for, or one at another partition
@@ -49,11 +49,11 @@ abbrev pub beginning : ℕ → ℕ → ℕ → History
 beginning pid epoch joined = logFlushed 120 ∷ recordAppended (recordOf7 Begin pid epoch joined) 120 ∷ logOpened (pos 1) ∷ []
 
 abbrev pub notEntitled : NotEntitled → World
-notEntitled noName = told (entryWritten (entry7 0 0 501 0) ∷ logOpened (pos 1) ∷ [])
-notEntitled notBegun = told (entryWritten (entry7 0 0 501 0) ∷ logFlushed 53 ∷ recordAppended (recordOf7 Empty 1000 0 0) 53 ∷ logOpened (pos 1) ∷ [])
-notEntitled alreadyPrepared = told (entryWritten (entry7 0 0 501 0) ∷ committing)
-notEntitled widenedUnflushed = told (entryWritten (entry7 1 0 501 0) ∷ recordAppended (recordOf7 Begin 1000 0 3) 190 ∷ beginning 1000 0 1)
-notEntitled beginOfPid = told (entryWritten (entry7 0 0 501 0) ∷ beginning 1001 0 3)
-notEntitled beginOfEpoch = told (entryWritten (entry7 0 0 501 0) ∷ beginning 1000 1 3)
-notEntitled notJoined = told (entryWritten (entry7 0 0 501 0) ∷ beginning 1000 0 2)
-notEntitled wrongOffset = told (entryWritten (entry7 0 0 501 1) ∷ begun)
+notEntitled noName = withHistory (entryWritten (entry7 0 0 501 0) ∷ logOpened (pos 1) ∷ [])
+notEntitled notBegun = withHistory (entryWritten (entry7 0 0 501 0) ∷ logFlushed 53 ∷ recordAppended (recordOf7 Empty 1000 0 0) 53 ∷ logOpened (pos 1) ∷ [])
+notEntitled alreadyPrepared = withHistory (entryWritten (entry7 0 0 501 0) ∷ committing)
+notEntitled widenedUnflushed = withHistory (entryWritten (entry7 1 0 501 0) ∷ recordAppended (recordOf7 Begin 1000 0 3) 190 ∷ beginning 1000 0 1)
+notEntitled beginOfPid = withHistory (entryWritten (entry7 0 0 501 0) ∷ beginning 1001 0 3)
+notEntitled beginOfEpoch = withHistory (entryWritten (entry7 0 0 501 0) ∷ beginning 1000 1 3)
+notEntitled notJoined = withHistory (entryWritten (entry7 0 0 501 0) ∷ beginning 1000 0 2)
+notEntitled wrongOffset = withHistory (entryWritten (entry7 0 0 501 1) ∷ begun)

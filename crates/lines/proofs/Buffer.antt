@@ -13,14 +13,14 @@ use Rattle.numbers.specs.Bytes.{overwrite}
 use Rattle.numbers.proofs.Bytes.{take-through, length-overwrite}
 use Rattle.search.specs.Search.{firstWhere, Each}
 use Rattle.search.proofs.Laws.{first-found, first-before}
-use Rattle.lines.specs.Text.{isFeed, Line, whole, long, shown, pending, ended, linesIn, restIn, kept}
+use Rattle.lines.specs.Text.{isLineFeed, Line, whole, long, shown, pending, ended, linesIn, restIn, kept}
 use Rattle.lines.specs.Cursor.{foundIn, lineEnd, pendingLength, pendingBytes, cursor, nextAt, nextOf, drops, keptCursor, keptBytes}
 use Rattle.lines.specs.declared.Found.{Found}
 use Rattle.lines.specs.declared.Found.the-variants.{At, Nothing}
 use Rattle.lines.specs.declared.Cursor.{Cursor}
 use Rattle.lines.specs.declared.Next.the-variants.{Line as NextLine, Long, More}
 use Rattle.lines.proofs.Steps.{found-within}
-use Rattle.lines.proofs.Parts.{NoFeed, in-passed, rest-passed, in-feed, rest-feed, in-none, rest-none}
+use Rattle.lines.proofs.Parts.{NoLineFeed, in-passed, rest-passed, in-line-feed, rest-line-feed, in-none, rest-none}
 
 -- two different cases are never equal
 differ {ℓ} : {X : Type ℓ} → _≡_ {A = ℕ} 0 1 → X
@@ -45,12 +45,12 @@ or-left false b e = refl
 
 -- ---- a part with a line feed in it
 
-module _ (part : List ℕ) (inside : firstWhere isFeed part < length part) where
+module _ (part : List ℕ) (inside : firstWhere isLineFeed part < length part) where
   abbrev n : ℕ
-  n = firstWhere isFeed part
+  n = firstWhere isLineFeed part
 
-  before : NoFeed (take n part)
-  before = each-front (λ (b : ℕ). isFeed b ≡ false) part n (λ j h k. first-before isFeed part 0 j h)
+  before : NoLineFeed (take n part)
+  before = each-front (λ (b : ℕ). isLineFeed b ≡ false) part n (λ j h k. first-before isLineFeed part 0 j h)
 
   parted : part ≡ take n part ++ getD part n 0 ∷ drop (suc n) part
   parted = split-at part n 0 inside
@@ -59,20 +59,20 @@ module _ (part : List ℕ) (inside : firstWhere isFeed part < length part) where
   lines-next room skipping =
       ap (linesIn room skipping []) parted
       ∙ in-passed room skipping [] (take n part) (getD part n 0 ∷ drop (suc n) part) before
-      ∙ in-feed room skipping (take n part) (getD part n 0) (drop (suc n) part) (first-found isFeed part 0 inside)
+      ∙ in-line-feed room skipping (take n part) (getD part n 0) (drop (suc n) part) (first-found isLineFeed part 0 inside)
 
   pub rest-next : (room : ℕ) (skipping : Bool) → restIn skipping [] part ≡ restIn false [] (drop (suc n) part)
   rest-next room skipping =
       ap (restIn skipping []) parted
       ∙ rest-passed room skipping [] (take n part) (getD part n 0 ∷ drop (suc n) part) before
-      ∙ rest-feed room skipping (take n part) (getD part n 0) (drop (suc n) part) (first-found isFeed part 0 inside)
+      ∙ rest-line-feed room skipping (take n part) (getD part n 0) (drop (suc n) part) (first-found isLineFeed part 0 inside)
 
 -- ---- a part without one
 
-module _ (part : List ℕ) (none : length part ≤ firstWhere isFeed part) where
-  all-before : NoFeed part
+module _ (part : List ℕ) (none : length part ≤ firstWhere isLineFeed part) where
+  all-before : NoLineFeed part
   all-before =
-      rw (take-all (length part) part (omega arith)) at (each-front (λ (b : ℕ). isFeed b ≡ false) part (length part) (λ j h k. first-before isFeed part 0 j (omega arith)))
+      rw (take-all (length part) part (omega arith)) at (each-front (λ (b : ℕ). isLineFeed b ≡ false) part (length part) (λ j h k. first-before isLineFeed part 0 j (omega arith)))
 
   pub lines-none : (room : ℕ) (skipping : Bool) → linesIn room skipping [] part ≡ []
   lines-none room skipping =
@@ -102,7 +102,7 @@ module _ (buffer : List ℕ) (c : Cursor) where
   part = pendingBytes buffer c
 
   abbrev feed : ℕ
-  feed = firstWhere isFeed part
+  feed = firstWhere isLineFeed part
 
   part-most : length part ≤ length buffer - c .from
   part-most = rw (length-take, length-drop) (omega arith)

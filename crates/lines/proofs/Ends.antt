@@ -1,20 +1,18 @@
 -- Laws of the first line feed, as the loop that looks for it needs them.
-use Prim.Native.Nat.{ℕ, zero, suc, _+_, _-_, _≤_, _<_}
+use Prim.Native.Nat.{ℕ, suc, _+_, _-_, _≤_, _<_}
 use Prim.Native.Char.{code}
 use mathlib.Core.Path.{_≡_, refl, sym, ap, ap₂, _∙_}
-use mathlib.Core.Bool.{Bool, true, false, cond}
 use mathlib.Core.List.{List, [], _∷_}
 use native.Mathlib.Nat.{add-zero}
 use native.Mathlib.Numerals.{add-one}
 use native.Mathlib.Omega.{arith}
-use borrow.Author.Tests.{eq-eqb, ne-eqb, lt-ltb, le-ltb}
-use lib.Dec.{ltb, leb·suc-suc}
+use borrow.Author.Tests.{eq-eqb, ne-eqb, lt-ltb}
+use lib.Dec.{leb·suc-suc}
 use lib.ListN.{length, take, drop, getD, drop-of-length-le}
 use lib.Seq.{drop-cons, take-nil}
 use Rattle.search.specs.Search.{firstWhere}
-use Rattle.lines.specs.Text.{isFeed}
+use Rattle.lines.specs.Text.{isLineFeed}
 use Rattle.lines.specs.Cursor.{foundIn, lineEnd}
-use Rattle.lines.specs.declared.Found.{Found}
 use Rattle.lines.specs.declared.Found.the-variants.{At, Nothing}
 
 found-here : (from b : ℕ) (part : List ℕ) → b ≡ code "\n" → foundIn from (b ∷ part) ≡ At from
@@ -24,7 +22,7 @@ found-here from b part e = rw (eq-eqb b (code "\n") e, lt-ltb 0 (suc (length par
 found-on : (from b : ℕ) (part : List ℕ) → (b ≡ code "\n" → ⊥) → foundIn from (b ∷ part) ≡ foundIn (from + 1) part
 unfolding firstWhere
 found-on from b part d =
-    let n = firstWhere isFeed part in
+    let n = firstWhere isLineFeed part in
     let s : from + suc n ≡ from + 1 + n = omega arith in
     rw (ne-eqb b (code "\n") d, s, leb·suc-suc (suc n) (length part)) refl
 

@@ -1,40 +1,39 @@
 -- A text that is read by parts has the lines that it has as a whole.
-use Prim.Native.Nat.{ℕ, suc, _+_, _≤_, _<_}
+use Prim.Native.Nat.{ℕ, _+_, _≤_, _<_}
 use mathlib.Core.Path.{_≡_, refl, sym, ap, ap₂, _∙_}
-use mathlib.Core.Bool.{Bool, true, false, cond, _||_}
+use mathlib.Core.Bool.{Bool, true, false, cond}
 use mathlib.Core.List.{List, [], _∷_, _++_, map, append-assoc, append-nil}
 use native.Mathlib.Omega.{arith}
-use borrow.Author.Tests.{leb-true, leb-false, lt-ltb, le-ltb, ne-eqb}
-use lib.Dec.{eqb, ltb, leb}
+use borrow.Author.Tests.{leb-true, le-ltb, ne-eqb}
+use lib.Dec.{eqb, leb}
 use lib.ListN.{length, length-append}
-use Rattle.numbers.proofs.Tests.{by-cases}
 use Rattle.search.specs.Search.{Each}
-use Rattle.lines.specs.Text.{isFeed, linesFrom, linesOf, Line, whole, long, shown, Pending, pending, ended, linesIn, restIn, kept, lastLines, readParts, joined, SameLines}
+use Rattle.lines.specs.Text.{isLineFeed, linesFrom, linesOf, Line, shown, Pending, pending, ended, linesIn, restIn, kept, lastLines, readParts, joined, SameLines}
 
 -- ---- one byte more
 
 module _ (room : ℕ) (skipping : Bool) (line : List ℕ) (b : ℕ) (s : List ℕ) where
-  pub in-feed : isFeed b ≡ true → linesIn room skipping line (b ∷ s) ≡ ended room skipping line ∷ linesIn room false [] s
+  pub in-line-feed : isLineFeed b ≡ true → linesIn room skipping line (b ∷ s) ≡ ended room skipping line ∷ linesIn room false [] s
   unfolding linesIn
-  in-feed e = rw e
+  in-line-feed e = rw e
 
-  in-on : isFeed b ≡ false → linesIn room skipping line (b ∷ s) ≡ linesIn room skipping (line ++ (b ∷ [])) s
+  in-on : isLineFeed b ≡ false → linesIn room skipping line (b ∷ s) ≡ linesIn room skipping (line ++ (b ∷ [])) s
   unfolding linesIn
   in-on e = rw e
 
-  pub rest-feed : isFeed b ≡ true → restIn skipping line (b ∷ s) ≡ restIn false [] s
+  pub rest-line-feed : isLineFeed b ≡ true → restIn skipping line (b ∷ s) ≡ restIn false [] s
   unfolding restIn
-  rest-feed e = rw e
+  rest-line-feed e = rw e
 
-  rest-on : isFeed b ≡ false → restIn skipping line (b ∷ s) ≡ restIn skipping (line ++ (b ∷ [])) s
+  rest-on : isLineFeed b ≡ false → restIn skipping line (b ∷ s) ≡ restIn skipping (line ++ (b ∷ [])) s
   unfolding restIn
   rest-on e = rw e
 
-from-feed : (line : List ℕ) (b : ℕ) (s : List ℕ) → isFeed b ≡ true → linesFrom line (b ∷ s) ≡ line ∷ linesFrom [] s
+from-line-feed : (line : List ℕ) (b : ℕ) (s : List ℕ) → isLineFeed b ≡ true → linesFrom line (b ∷ s) ≡ line ∷ linesFrom [] s
 unfolding linesFrom
-from-feed line b s e = rw e
+from-line-feed line b s e = rw e
 
-from-on : (line : List ℕ) (b : ℕ) (s : List ℕ) → isFeed b ≡ false → linesFrom line (b ∷ s) ≡ linesFrom (line ++ (b ∷ [])) s
+from-on : (line : List ℕ) (b : ℕ) (s : List ℕ) → isLineFeed b ≡ false → linesFrom line (b ∷ s) ≡ linesFrom (line ++ (b ∷ [])) s
 unfolding linesFrom
 from-on line b s e = rw e
 
@@ -48,22 +47,22 @@ rest-none skipping line = refl
 
 -- ---- bytes without a line feed are part of the line
 
-abbrev pub NoFeed : List ℕ → Type 0
-NoFeed l = Each (λ (b : ℕ). isFeed b ≡ false) l
+abbrev pub NoLineFeed : List ℕ → Type 0
+NoLineFeed l = Each (λ (b : ℕ). isLineFeed b ≡ false) l
 
-no-feed-more : (l : List ℕ) (b : ℕ) → NoFeed l → isFeed b ≡ false → NoFeed (l ++ (b ∷ []))
-no-feed-more [] b n e = (e, tt)
-no-feed-more (x ∷ l) b (h, n) e = (h, no-feed-more l b n e)
+no-line-feed-more : (l : List ℕ) (b : ℕ) → NoLineFeed l → isLineFeed b ≡ false → NoLineFeed (l ++ (b ∷ []))
+no-line-feed-more [] b n e = (e, tt)
+no-line-feed-more (x ∷ l) b (h, n) e = (h, no-line-feed-more l b n e)
 
 module _ (room : ℕ) (skipping : Bool) where
-  pub in-passed : (line a s : List ℕ) → NoFeed a → linesIn room skipping line (a ++ s) ≡ linesIn room skipping (line ++ a) s
+  pub in-passed : (line a s : List ℕ) → NoLineFeed a → linesIn room skipping line (a ++ s) ≡ linesIn room skipping (line ++ a) s
   in-passed line [] s n = ap (λ (l : List ℕ). linesIn room skipping l s) (sym (append-nil line))
   in-passed line (b ∷ a) s (e, n) =
       in-on room skipping line b (a ++ s) e
       ∙ in-passed (line ++ (b ∷ [])) a s n
       ∙ ap (λ (l : List ℕ). linesIn room skipping l s) (append-assoc line (b ∷ []) a)
 
-  pub rest-passed : (line a s : List ℕ) → NoFeed a → restIn skipping line (a ++ s) ≡ restIn skipping (line ++ a) s
+  pub rest-passed : (line a s : List ℕ) → NoLineFeed a → restIn skipping line (a ++ s) ≡ restIn skipping (line ++ a) s
   rest-passed line [] s n = ap (λ (l : List ℕ). restIn skipping l s) (sym (append-nil line))
   rest-passed line (b ∷ a) s (e, n) =
       rest-on room skipping line b (a ++ s) e
@@ -84,13 +83,13 @@ holds-more : (room : ℕ) (t : List ℕ) (skipping : Bool) (bytes : List ℕ) (b
 holds-more room t false bytes b h = ap (λ (l : List ℕ). l ++ (b ∷ [])) h
 holds-more room t true bytes b h = omega (arith, length-append t (b ∷ []))
 
-holds-kept : (room : ℕ) (t : List ℕ) (skipping : Bool) (bytes : List ℕ) → Holds room t skipping bytes → NoFeed bytes
-    → let q = kept room (pending bytes skipping) in Holds room t (q .skipping) (q .bytes) × NoFeed (q .bytes)
+holds-kept : (room : ℕ) (t : List ℕ) (skipping : Bool) (bytes : List ℕ) → Holds room t skipping bytes → NoLineFeed bytes
+    → let q = kept room (pending bytes skipping) in Holds room t (q .skipping) (q .bytes) × NoLineFeed (q .bytes)
 holds-kept room t true bytes h n = (h, tt)
 holds-kept room t false bytes h n = go (leb room (length bytes)) refl
   where
     go : (b : Bool) → leb room (length bytes) ≡ b
-        → let q = cond b (pending [] true) (pending bytes false) in Holds room t (q .skipping) (q .bytes) × NoFeed (q .bytes)
+        → let q = cond b (pending [] true) (pending bytes false) in Holds room t (q .skipping) (q .bytes) × NoLineFeed (q .bytes)
     go true e = (omega (arith, leb-true room (length bytes) e, ap length h), tt)
     go false e = (h, n)
 
@@ -112,27 +111,27 @@ holds-last room some t false bytes h = rw (h, no-more t) (go (eqb (length t) 0))
 
 module _ (room : ℕ) (some : 0 < room) where
   Claim : List (List ℕ) → Type 0
-  Claim parts = (skipping : Bool) (bytes t : List ℕ) → Holds room t skipping bytes → NoFeed bytes
+  Claim parts = (skipping : Bool) (bytes t : List ℕ) → Holds room t skipping bytes → NoLineFeed bytes
       → readParts room (pending bytes skipping) parts ≡ map (shown room) (linesFrom t (joined parts))
 
   -- through one part
-  through : (parts : List (List ℕ)) → Claim parts → (s : List ℕ) (skipping : Bool) (line t : List ℕ) → Holds room t skipping line → NoFeed line
+  through : (parts : List (List ℕ)) → Claim parts → (s : List ℕ) (skipping : Bool) (line t : List ℕ) → Holds room t skipping line → NoLineFeed line
       → linesIn room skipping line s ++ readParts room (restIn skipping line s) parts ≡ map (shown room) (linesFrom t (s ++ joined parts))
   unfolding Claim
   through parts claim [] skipping line t h n =
       rw (in-none room skipping line, rest-none skipping line) (claim skipping line t h n)
-  through parts claim (b ∷ s) skipping line t h n = go (isFeed b) refl (through parts claim s)
+  through parts claim (b ∷ s) skipping line t h n = go (isLineFeed b) refl (through parts claim s)
     where
-      go : (f : Bool) → isFeed b ≡ f
-          → ((k : Bool) (l u : List ℕ) → Holds room u k l → NoFeed l
+      go : (f : Bool) → isLineFeed b ≡ f
+          → ((k : Bool) (l u : List ℕ) → Holds room u k l → NoLineFeed l
           → linesIn room k l s ++ readParts room (restIn k l s) parts ≡ map (shown room) (linesFrom u (s ++ joined parts)))
           → linesIn room skipping line (b ∷ s) ++ readParts room (restIn skipping line (b ∷ s)) parts ≡ map (shown room) (linesFrom t (b ∷ (s ++ joined parts)))
       go true e on =
-          rw (in-feed room skipping line b s e, rest-feed room skipping line b s e, from-feed t b (s ++ joined parts) e)
+          rw (in-line-feed room skipping line b s e, rest-line-feed room skipping line b s e, from-line-feed t b (s ++ joined parts) e)
           (ap₂ (λ (x : Line) (l : List Line). x ∷ l) (holds-ended room t skipping line h) (on false [] [] refl tt))
       go false e on =
           rw (in-on room skipping line b s e, rest-on room skipping line b s e, from-on t b (s ++ joined parts) e)
-          (on skipping (line ++ (b ∷ [])) (t ++ (b ∷ [])) (holds-more room t skipping line b h) (no-feed-more line b n e))
+          (on skipping (line ++ (b ∷ [])) (t ++ (b ∷ [])) (holds-more room t skipping line b h) (no-line-feed-more line b n e))
 
   parts-none : (p : Pending) → readParts room p [] ≡ lastLines room (kept room p)
   unfolding readParts

@@ -10,7 +10,7 @@ use lib.ListN.{length, take, drop, length-take, length-drop}
 use Rattle.numbers.specs.Bytes.{overwrite}
 use Rattle.numbers.proofs.Bytes.{overwrite-none}
 use Rattle.search.specs.Search.{firstWhere}
-use Rattle.lines.specs.Text.{isFeed}
+use Rattle.lines.specs.Text.{isLineFeed}
 use Rattle.lines.specs.Cursor.{foundIn, lineEnd, pendingLength, cursor, nextAt, nextOf, keptCursor, keptBytes, lastOf}
 use Rattle.lines.specs.declared.Found.{Found}
 use Rattle.lines.specs.declared.Found.the-variants.{At, Nothing}
@@ -22,12 +22,12 @@ use Rattle.lines.specs.declared.Last.the-variants.{Line as LastLine, Lon
 differ {ℓ} : {X : Type ℓ} → _≡_ {A = ℕ} 0 1 → X
 differ e = absurd (omega arith)
 
-pub found-within : (from : ℕ) (part : List ℕ) {place : ℕ} → foundIn from part ≡ At place → (place ≡ from + firstWhere isFeed part) × (firstWhere isFeed part < length part)
-found-within from part {place} = go (ltb (firstWhere isFeed part) (length part)) refl
+pub found-within : (from : ℕ) (part : List ℕ) {place : ℕ} → foundIn from part ≡ At place → (place ≡ from + firstWhere isLineFeed part) × (firstWhere isLineFeed part < length part)
+found-within from part {place} = go (ltb (firstWhere isLineFeed part) (length part)) refl
   where
-    go : (b : Bool) → ltb (firstWhere isFeed part) (length part) ≡ b → cond b (At (from + firstWhere isFeed part)) Nothing ≡ At place
-        → (place ≡ from + firstWhere isFeed part) × (firstWhere isFeed part < length part)
-    go true h e = (cc, ltb-true (firstWhere isFeed part) (length part) h)
+    go : (b : Bool) → ltb (firstWhere isLineFeed part) (length part) ≡ b → cond b (At (from + firstWhere isLineFeed part)) Nothing ≡ At place
+        → (place ≡ from + firstWhere isLineFeed part) × (firstWhere isLineFeed part < length part)
+    go true h e = (cc, ltb-true (firstWhere isLineFeed part) (length part) h)
     go false h e = differ cc
 
 -- a line feed lies in the bytes that were searched

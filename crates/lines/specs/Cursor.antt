@@ -6,7 +6,7 @@ use lib.Dec.{eqb, ltb}
 use lib.ListN.{length, take, drop}
 use Rattle.numbers.specs.Bytes.{overwrite}
 use Rattle.search.specs.Search.{firstWhere}
-use Rattle.lines.specs.Text.{isFeed}
+use Rattle.lines.specs.Text.{isLineFeed}
 use Rattle.lines.specs.declared.Found.{Found}
 use Rattle.lines.specs.declared.Found.the-variants.{At, Nothing}
 use Rattle.lines.specs.declared.Cursor.{Cursor}
@@ -17,7 +17,7 @@ use Rattle.lines.specs.declared.Last.the-variants.{Line as LastLine, Lon
 
 -- the first line feed of a part that starts at a place
 abbrev pub foundIn : ℕ → List ℕ → Found
-foundIn from part = let n = firstWhere isFeed part in cond (ltb n (length part)) (At (from + n)) Nothing
+foundIn from part = let n = firstWhere isLineFeed part in cond (ltb n (length part)) (At (from + n)) Nothing
 
 -- the first line feed of the `len` bytes from `from` on
 unfoldable pub lineEnd : List ℕ → ℕ → ℕ → Found

@@ -8,15 +8,15 @@ use lib.Dec.{eqb, ltb, leb}
 use lib.ListN.{length}
 
 -- whether a byte ends a line
-abbrev pub isFeed : ℕ → Bool
-isFeed b = eqb b (code "\n")
+abbrev pub isLineFeed : ℕ → Bool
+isLineFeed b = eqb b (code "\n")
 
 -- ---- the lines of a text
 
 -- a line that has started, and the text behind it; a last line needs no line feed
 unfoldable pub linesFrom : List ℕ → List ℕ → List (List ℕ)
 linesFrom line [] = cond (eqb (length line) 0) [] (line ∷ [])
-linesFrom line (b ∷ s) = cond (isFeed b) (line ∷ linesFrom [] s) (linesFrom (line ++ (b ∷ [])) s)
+linesFrom line (b ∷ s) = cond (isLineFeed b) (line ∷ linesFrom [] s) (linesFrom (line ++ (b ∷ [])) s)
 
 unfoldable pub linesOf : List ℕ → List (List ℕ)
 linesOf text = linesFrom [] text
@@ -47,11 +47,11 @@ ended room skipping line = cond skipping long (shown room line)
 -- the lines that end in what is read, where a line has started; and what is left then
 unfoldable pub linesIn : ℕ → Bool → List ℕ → List ℕ → List Line
 linesIn room skipping line [] = []
-linesIn room skipping line (b ∷ s) = cond (isFeed b) (ended room skipping line ∷ linesIn room false [] s) (linesIn room skipping (line ++ (b ∷ [])) s)
+linesIn room skipping line (b ∷ s) = cond (isLineFeed b) (ended room skipping line ∷ linesIn room false [] s) (linesIn room skipping (line ++ (b ∷ [])) s)
 
 unfoldable pub restIn : Bool → List ℕ → List ℕ → Pending
 restIn skipping line [] = pending line skipping
-restIn skipping line (b ∷ s) = cond (isFeed b) (restIn false [] s) (restIn skipping (line ++ (b ∷ [])) s)
+restIn skipping line (b ∷ s) = cond (isLineFeed b) (restIn false [] s) (restIn skipping (line ++ (b ∷ [])) s)
 
 -- before more is read: a line that fills the buffer, or goes on one that did, is dropped
 abbrev pub kept : ℕ → Pending → Pending

@@ -1,6 +1,6 @@
 // The lines of a text that is read by parts into a buffer.
 ghost use mathlib.Core.Path.{_≡_};
-ghost use Prim.Native.Nat.{_+_, _-_, _≤_, min};
+ghost use Prim.Native.Nat.{_+_, _-_, _≤_};
 ghost use lib.ListN.{length, take, drop};
 ghost use Rattle.numbers.specs.Bytes.{overwrite};
 ghost use Rattle.lines.specs.Cursor.{lineEnd, pendingLength, nextOf, NextWithin, keptCursor, keptBytes, lastOf, LastWithin};

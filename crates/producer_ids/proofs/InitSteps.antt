@@ -29,7 +29,7 @@ use Rattle.answers.proofs.Laws.{or-false-right, after-none, after-next, after-a
 use Rattle.table.specs.Table.{rowAt, placeFor, lowestFree, idCount}
 use Rattle.table.specs.declared.Held.{Held}
 use Rattle.coordinator.specs.Coordinator.{logEnd, admits, placeOfName, rowOf, holdsName, clockAt, newPid, rowFrame, logFull, Action, append, after, logAfter, Performed}
-use Rattle.coordinator.specs.Change.{unlessRefused, Leaves}
+use Rattle.coordinator.specs.Change.{unlessRefused, ActionPerformed}
 use Rattle.coordinator.specs.Init.{needsPid, initRow, idsThen, initRowTests, initTests, given, aborting, initAccepted, init}
 use Rattle.coordinator.specs.declared.Coordinator.{Coordinator}
 use Rattle.coordinator.proofs.Held.{begun-place}
@@ -103,11 +103,11 @@ module _ (s : Coordinator) (n : ℕ) (name : List ℕ) (timeout time : ℤ) {fir
 
 module _ (s : Coordinator) (held : Held) (free : ℕ) (new : Row) (clock : ℕ) (log : List ℕ) {begin : Bool} (tested : begin ≡ isBegin (held .row .status)) {state : Coordinator} {out : List ℕ} where
   pub init-fences : begin ≡ true → {fence : Row} → fence ≡ prepared (held .row) PrepareAbort (raise fenced (held .row .epoch)) clock
-      → state ≡ after (append (held .place) fence) s → out ≡ logAfter (append (held .place) fence) s log → Leaves (initAt held free new clock) s log state out
+      → state ≡ after (append (held .place) fence) s → out ≡ logAfter (append (held .place) fence) s log → ActionPerformed (initAt held free new clock) s log state out
   init-fences b w e o = rw (sym tested ∙ b) (rw w at e, rw w at o)
 
   pub init-appends : begin ≡ false → {place : ℕ} → place ≡ cond (ltb (held .place) places) (held .place) free
-      → state ≡ after (append place new) s → out ≡ logAfter (append place new) s log → Leaves (initAt held free new clock) s log state out
+      → state ≡ after (append place new) s → out ≡ logAfter (append place new) s log → ActionPerformed (initAt held free new clock) s log state out
   init-appends b p e o = rw (sym tested ∙ b) (rw p at e, o)
 
 -- ---- the call, whose signed arguments are passed on
@@ -164,7 +164,7 @@ module _ (s : Coordinator) (n : ℕ) (name : List ℕ) (timeout time : ℤ) {r :
         go false b = refl
 
   pub init-performs : length (s .table .rows) ≡ places → {free : ℕ} → free ≡ lowestFree (s .table) → SFits w64 time → (log : List ℕ) {answer : InitAnswer} {left state : Coordinator} {out : List ℕ}
-      → Leaves (unlessRefused r (initAt held free new (clockAt s (toZ w64 (ofZ w64 time))))) s log left out → answer ≡ cond (eqb r 0) (initAnswerAt (held .row) new) (Refused r) → state ≡ left
+      → ActionPerformed (unlessRefused r (initAt held free new (clockAt s (toZ w64 (ofZ w64 time))))) s log left out → answer ≡ cond (eqb r 0) (initAnswerAt (held .row) new) (Refused r) → state ≡ left
       → Performed (init s n name timeout time) s log answer state out
   unfolding init
   init-performs all {free} f t log h a e =

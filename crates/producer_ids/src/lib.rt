@@ -22,7 +22,7 @@ ghost use Rattle.answers.specs.Refusals.{firstRefusal};
 ghost use Rattle.answers.specs.declared.InitAnswer.the-variants.{Given, Refused};
 ghost use Rattle.table.specs.Table.{rowAt, lowestFree, idCount, reserved};
 ghost use Rattle.coordinator.specs.Coordinator.{logEnd, admits, clockAt, newPid, rowFrame, Performed};
-ghost use Rattle.coordinator.specs.Change.{changedBy, unlessRefused, Leaves};
+ghost use Rattle.coordinator.specs.Change.{changedBy, unlessRefused, ActionPerformed};
 ghost use Rattle.coordinator.specs.Named.{FoundFor};
 ghost use Rattle.coordinator.specs.Init.{needsPid, initRow, initTests, init};
 ghost use Rattle.producer_ids.specs.Parts.{initRowWith, initAt, initAnswerAt};
@@ -151,7 +151,7 @@ fn init_change(
     time: i64,
 ) -> Change
     requires { ⌜ (refusal ≡ 0 → (admits s (length (now log)) ≡ true) × (held .row ≡ rowAt (s .table) (held .place)) × (isBegin (held .row .status) ≡ false → logEnd s + length (rowFrame s new) ≤ length (now log))) ⌝ }
-    ensures { λ r. ⌜ Leaves (unlessRefused refusal (initAt held free new (clockAt s time))) s (now (log .entry)) (changedBy s r) (now (log .exit)) ⌝ }
+    ensures { λ r. ⌜ ActionPerformed (unlessRefused refusal (initAt held free new (clockAt s time))) s (now (log .entry)) (changedBy s r) (now (log .exit)) ⌝ }
 {
     if refusal != 0 {
         return coordinator::unchanged(s);

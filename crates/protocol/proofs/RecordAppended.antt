@@ -29,7 +29,7 @@ use Rattle.succession.proofs.Laws.{Move, raising, renewing, beginning, widening
 use Rattle.table.specs.Table.{emptyTable}
 use Rattle.log_reader.specs.Records.{tableOf}
 use Rattle.log_reader.proofs.RecordLaws.{come-newest}
-use Rattle.runs.specs.History.{Order, Event, recordAppended, History, preparedBefore, numberAfter, ordersIn, markersIn, collect, collectWithBefore, Logged, endingBy, recordsOf, contents, endOf, flushedOf, isFlushed, isFlushedPrepare, isOf}
+use Rattle.runs.specs.History.{Order, Event, recordAppended, History, preparedBefore, numberAfter, ordersIn, markersIn, collect, collectWithBefore, Logged, endingBy, recordsOf, contents, flushedOf, isFlushed, isFlushedPrepare, isOf}
 use Rattle.protocol.specs.RecordsOfName.{latestIn, isPrepareOf, preparesIn, nthPrepare}
 use Rattle.protocol.specs.Entries.{Entry, entriesOf, ordinalOf, underOf}
 use Rattle.protocol.specs.HistoryInvariant.{Stage, begun, prepared, OpenTransaction, Closes, Standing, stillOpen, closed, InTransaction, AlreadyClosed, HistoryInvariant, MarksPrepare}
@@ -114,10 +114,6 @@ module _ (c : Catalogue) (h : History) (t : HistoryInvariant c h) where
         (λ y. found-is (OpenTransaction p (new ∷ recordsOf h)) (find-hit (isOf (p .what .name)) new (recordsOf h) y) (own p j z l e b y))
         (λ y. found-is (OpenTransaction p (new ∷ recordsOf h)) (find-miss (isOf (p .what .name)) new (recordsOf h) y ∙ e)
         (record { pid = b .pid; joined = b .joined; stage = stage-other p l (prepares-other (p .what .name) new (recordsOf h) y) (b .stage) }))))
-
-    -- the record is behind all that there are
-    past : endOf (recordsOf h) ≤ end
-    past = omega (arith, a .ends)
 
     -- a prepare and the entries of its transaction: no prepare of its name came after them
     joins : isPrepare (r .status) ≡ true → (p : Entry) → In p (entriesOf h) → InTransaction (appending ∷ h) new p → nthPrepare (p .what .name) (ordinalOf p) (new ∷ recordsOf h) ≡ some new

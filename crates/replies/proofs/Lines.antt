@@ -1,11 +1,11 @@
 -- What is handed to the crate that renders lines gives the line of the definition.
 use Prim.Native.Nat.{ℕ, zero, suc, _+_, _≤_}
-use mathlib.Core.Path.{_≡_, refl, sym, ap, subst, _∙_}
+use mathlib.Core.Path.{_≡_, refl, ap, _∙_}
 use mathlib.Core.Bool.{Bool, true, false, cond}
 use mathlib.Core.List.{List, [], _∷_, map}
 use native.Mathlib.Omega.{arith}
 use lib.Dec.{eqb}
-use lib.IntN.{ℤ, pos}
+use lib.IntN.{pos}
 use lib.ListN.{length, take}
 use borrow.Author.Tests.{ne-eqb, le-ltb}
 use Rattle.numbers.proofs.Tests.{by-cases}
@@ -14,7 +14,7 @@ use Rattle.text.specs.Lines.{line, Wrote}
 use Rattle.command.specs.declared.Command.{Command}
 use Rattle.command.specs.Command.{rowOfCommand}
 use Rattle.command.specs.Words.{wordAt}
-use Rattle.listing.specs.Listing.{numberField, resultsOf as resultsIn, payloadFields, resultFields, replyLine, renderAnswer, renderBytes, Within}
+use Rattle.listing.specs.Listing.{numberField, resultsOf as resultsIn, resultFields, replyLine, renderAnswer, renderBytes, Within}
 use Rattle.listing.specs.Limits.{lineMax}
 use Rattle.listing.specs.declared.Reply.{Reply as Shown}
 use Rattle.listing.specs.declared.Reply.the-variants.{Unknown, Answered}

@@ -10,7 +10,7 @@ use Rattle.listing.specs.Limits.{lineMax}
 use Rattle.listing.specs.declared.Rendered.{Rendered}
 use Rattle.listing.specs.declared.Rendered.the-variants.{Next, NoRoom}
 use Rattle.session.specs.Memory.{Memory}
-use Rattle.session.specs.Commands.{Outcome, performed}
+use Rattle.session.specs.Commands.{performed}
 use Rattle.replies.specs.Shown.{answerLine}
 
 -- the answer line, and the memory after it

@@ -45,7 +45,7 @@ use Rattle.runs.specs.Demand3.{CompletesInTime}
 use mathlib.Core.Bool.{true}
 use Rattle.run_examples.specs.Runs.{carry, prepared, completeLost}
 use Rattle.run_examples.specs.Examples.{after}
-use Rattle.run_examples.specs.Values.{Moment, unflushedPrepare, shortFlush, flushedPrepare, lostPrepare, secondTransaction, ordersUnderWay, ordersOfBoth, bothCompleted, completeCut, completeLostThen, carriedAgain, itemsTo, factsOf, expectedFacts, twoInTurn, PremiseMet}
+use Rattle.run_examples.specs.Values.{Moment, unflushedPrepare, shortFlush, flushedPrepare, lostPrepare, secondTransaction, ordersUnderWay, ordersOfBoth, bothCompleted, completeCut, completeLostThen, carriedAgain, itemsTo, factsOf, expectedFacts, PremiseMet}
 
 pub facts-hold : (m : Moment) → factsOf (after (itemsTo m) .history) ≡ expectedFacts m
 unfolding openLeaders run collect collectWithBefore endingBy recordsOf framesOf flushedOf wordsOf recordsRead find findLast filter ones overwrite same bigEndian integerBytes untilZero members nameByte nameRun isLine lineAt isNew catalogueLines parse nameBytes key partitionBytes topicEntry topicBytes topicsBelow countBelow topics value frame firstWhere countWhere sumOf firstRefusal nameFits scan placeOf lowestFree idCount reserved apply admits notHeld logFull appended readTests takeOverTests openTests opening initRow initTests initRowTests initAccepted init allJoined addRow addTests addRowTests addAction add overdue overduePlace tickTests tickAccepted tick flushTests flush openPartition openCount partitionAdmits lastSequence nextSequence produced partitionFull produceTests produceRowTests produce readFrame judged candidate wellFormed validName fieldsFit joinedFits startFits integerOf numberFrom walk past topicAt nameStands partitionsAt partitionsOf partitionsBelow withPartition mayCome succeeds first follows keeps mayFollowStatus initializes begins widens preparesCommit preparesAbort completes ackTests ackRowTests ackAction ack acknowledged endFits endTests endRowTests endAction end ordered orderPlace order markerTests closed markerAction marker oldest nextMarker committed copy readOffsetTests readAnswer readOut trailingZeros

@@ -31,32 +31,32 @@ use Rattle.writable_logs.specs.Writer.{openingReply}
 use Rattle.runs.specs.History.{Order, Produced, Event, logOpened, entryWritten, markerWritten, orderCarried, History}
 use Rattle.runs.specs.World.{Leader, openLeader, Phase, up, down, Carrying, nothing, toDeliver, toAcknowledge, World, leaderAt, own, Item, call, callOrder, callProduce, callRead, deliver, acknowledge, reopen, withEvent, coordinatorDoes, historyWritten, leaderDoes, lentPartition, orderAnswered, deliverable, acknowledgeable, onceDone, produceCalled, markerCalled, withPhase, reopened, next}
 use Rattle.runs.proofs.Cases.{while-up}
-use Rattle.runs.specs.SameCalls.{serverAt, Leaves, OrderTaken, EntryTaken, MarkerTaken, SameCalls}
+use Rattle.runs.specs.SameCalls.{serverAt, SameAsCall, OrderTaken, EntryTaken, MarkerTaken, SameCalls}
 
 -- ---- what an item leaves, by the world that it leaves
 
 module _ (item : Item) (w : World) (s : Coordinator) (c : Call) (x : ℕ) (out : List ℕ) where
-  leaves-by : (v : World) (state : Coordinator) → next item w ≡ v → v .phase ≡ up state
+  same-by : (v : World) (state : Coordinator) → next item w ≡ v → v .phase ≡ up state
       → (let after = afterCall c (serverAt s w x out) in after ≡ serverAt state v x (after .out))
       → ((y : ℕ) → (y ≡ x → ⊥) → leaderAt v y ≡ leaderAt w y)
-      → Leaves item w s c x out
-  leaves-by v state e still-up leaves others =
+      → SameAsCall item w s c x out
+  same-by v state e still-up same others =
       record {
         state = state;
         still-up = ap (λ (v : World). v .phase) e ∙ still-up;
-        leaves = leaves ∙ ap (λ (v : World). serverAt state v x (afterCall c (serverAt s w x out) .out)) (sym e);
+        same = same ∙ ap (λ (v : World). serverAt state v x (afterCall c (serverAt s w x out) .out)) (sym e);
         others = λ y n. ap (λ (v : World). leaderAt v y) e ∙ others y n;
       }
 
 -- ---- calls of the coordinator
 
-calls : (w : World) (s : Coordinator) → w .phase ≡ up s → (c : CoordinatorCall) (x : ℕ) (out : List ℕ) → Leaves (call own c) w s (serverCall c) x out
-calls w s u c x out = leaves-by (call own c) w s (serverCall c) x out (coordinatorDoes (actionOf c s (length (w .log))) s w) _ (while-up w s u _) refl refl (λ y n. refl)
+calls : (w : World) (s : Coordinator) → w .phase ≡ up s → (c : CoordinatorCall) (x : ℕ) (out : List ℕ) → SameAsCall (call own c) w s (serverCall c) x out
+calls w s u c x out = same-by (call own c) w s (serverCall c) x out (coordinatorDoes (actionOf c s (length (w .log))) s w) _ (while-up w s u _) refl refl (λ y n. refl)
 
 acks : (w : World) (s : Coordinator) → w .phase ≡ up s → (i : ℕ) (o : Order) → w .carrying ≡ toAcknowledge i o → (x : ℕ) (out : List ℕ)
-    → Leaves (acknowledge own i) w s (serverCall (ackCall (o .place) (o .pid) (o .epoch) (o .position))) x out
+    → SameAsCall (acknowledge own i) w s (serverCall (ackCall (o .place) (o .pid) (o .epoch) (o .position))) x out
 acks w s u i o e x out =
-    leaves-by (acknowledge own i) w s (serverCall c) x out (coordinatorDoes (actionOf c s (length (w .log))) s (withEvent w (orderCarried o))) _
+    same-by (acknowledge own i) w s (serverCall c) x out (coordinatorDoes (actionOf c s (length (w .log))) s (withEvent w (orderCarried o))) _
     (while-up w s u _ ∙ ap (λ (k : Carrying). acknowledgeable k i w f) e ∙ ap (λ (b : Bool). cond b (f o) w) (eq-eqb i i refl)) refl refl (λ y n. refl)
   where
     c : CoordinatorCall
@@ -66,10 +66,10 @@ acks w s u i o e x out =
     f p = coordinatorDoes (actionOf (ackCall (p .place) (p .pid) (p .epoch) (p .position)) s (length (w .log))) s (withEvent w (orderCarried p))
 
 orders : (w : World) (s : Coordinator) → w .phase ≡ up s → (set x : ℕ) (out : List ℕ)
-    → Leaves (callOrder set) w s (orderCall set) x out
+    → SameAsCall (callOrder set) w s (orderCall set) x out
     × OrderTaken (answerOf (orderCall set) (serverAt s w x out)) w (next (callOrder set) w) (next (callOrder set) w .carrying)
 orders w s u set x out = (
-  leaves-by (callOrder set) w s (orderCall set) x out (orderAnswered (order s set) s w) s is (still (order s set)) (same (order s set)) (others (order s set)),
+  same-by (callOrder set) w s (orderCall set) x out (orderAnswered (order s set) s w) s is (still (order s set)) (same (order s set)) (others (order s set)),
   rw is (taken (order s set)),
 )
   where
@@ -102,19 +102,19 @@ module _ (item : Item) (w : World) (s : Coordinator) (u : w .phase ≡ up s) (c 
   abbrev serving : Leader → List ℕ → Server
   serving l read = record { coordinator = s; log = w .log; partition = l .partition; words = l .words; out = read }
 
-  leads : next item w ≡ leaderDoes x a e k w → afterCall c (serverAt s w x out) ≡ serving led out → Leaves item w s c x out
+  leads : next item w ≡ leaderDoes x a e k w → afterCall c (serverAt s w x out) ≡ serving led out → SameAsCall item w s c x out
   leads is does =
-      leaves-by item w s c x out (leaderDoes x a e k w) s is u
+      same-by item w s c x out (leaderDoes x a e k w) s is u
       (does ∙ ap (λ (l : Leader). serving l out) (sym (getD-set-same (w .leaders) x led (openLeader []) inside))
       ∙ ap (serving (leaderAt (leaderDoes x a e k w) x)) (sym (ap (λ (r : Server). r .out) does)))
       (λ y n. getD-set-other (w .leaders) x y led (openLeader []) n)
 
-reads : (w : World) (s : Coordinator) → w .phase ≡ up s → (x from : ℕ) (out : List ℕ) → Leaves (callRead own x from out) w s (readCall from) x out
-reads w s u x from out = leaves-by (callRead own x from out) w s (readCall from) x out _ s (while-up w s u _) u refl (λ y n. refl)
+reads : (w : World) (s : Coordinator) → w .phase ≡ up s → (x from : ℕ) (out : List ℕ) → SameAsCall (callRead own x from out) w s (readCall from) x out
+reads w s u x from out = same-by (callRead own x from out) w s (readCall from) x out _ s (while-up w s u _) u refl (λ y n. refl)
 
 markers : (w : World) (s : Coordinator) → w .phase ≡ up s → (i : ℕ) (o : Order) → w .carrying ≡ toDeliver i o → o .position < length (w .leaders) → (out : List ℕ)
     → let c = markerCall (o .place) (o .pid) (o .epoch) (o .verdict) (o .coordinator) in
-    Leaves (deliver own i) w s c (o .position) out × MarkerTaken (answerOf c (serverAt s w (o .position) out)) i o (next (deliver own i) w .carrying)
+    SameAsCall (deliver own i) w s c (o .position) out × MarkerTaken (answerOf c (serverAt s w (o .position) out)) i o (next (deliver own i) w .carrying)
 markers w s u i o e inside out = (
   leads (deliver own i) w s u (markerCall (o .place) (o .pid) (o .epoch) (o .verdict) (o .coordinator)) (o .position) out inside
       (marker (leaderAt w (o .position) .partition) (length (leaderAt w (o .position) .words)) (o .place) (o .pid) (o .epoch) (o .verdict) (o .coordinator) .action) (markerWritten o) _ is refl,
@@ -146,7 +146,7 @@ module _ (s : Coordinator) (p : Partition) (n : ℕ) (name : List ℕ) (pid epoc
 produces : (w : World) (s : Coordinator) → w .phase ≡ up s → (other : ℕ) (name : List ℕ) (pid epoch : ℤ) (position : ℕ) (sequence : ℤ) (payload : ℕ) (out : List ℕ)
     → let x = lentPartition s position other in let item = callProduce own other name pid epoch position sequence payload in
     x < length (w .leaders)
-    → Leaves item w s (produceCall name pid epoch position sequence payload) x out
+    → SameAsCall item w s (produceCall name pid epoch position sequence payload) x out
     × EntryTaken (answerOf (produceCall name pid epoch position sequence payload) (serverAt s w x out)) (w .history) (next item w .history)
     (record { name = padded nameMax name; pid = pid; epoch = epoch; position = x; sequence = sequence; payload = payload; offset = leaderAt w x .partition .end })
 produces w s u other name pid epoch position sequence payload out inside =
@@ -164,16 +164,16 @@ produces w s u other name pid epoch position sequence payload out inside =
 
 openings : (w : World) (n before : ℕ) → w .phase ≡ down n before → (epoch first last : ℤ) → leZ (pos before) epoch ≡ true → (s : Coordinator) (x : ℕ) (out : List ℕ)
     → let c = openLog (w .text) n epoch first last in
-    (answerOf c (serverAt s w x out) .number ≡ 0 → Leaves (reopen epoch first last) w s c x out)
+    (answerOf c (serverAt s w x out) .number ≡ 0 → SameAsCall (reopen epoch first last) w s c x out)
     × ((answerOf c (serverAt s w x out) .number ≡ 0 → ⊥) → next (reopen epoch first last) w ≡ w)
 openings w n before u epoch first last low s x out = (opens, stays)
   where
     is : next (reopen epoch first last) w ≡ reopened (down n before) epoch first last w
     is = ap (λ (p : Phase). reopened p epoch first last w) u
 
-    opens : openingReply (w .text) (w .log) n epoch first last .number ≡ 0 → Leaves (reopen epoch first last) w s (openLog (w .text) n epoch first last) x out
+    opens : openingReply (w .text) (w .log) n epoch first last .number ≡ 0 → SameAsCall (reopen epoch first last) w s (openLog (w .text) n epoch first last) x out
     opens e =
-        leaves-by (reopen epoch first last) w s (openLog (w .text) n epoch first last) x out (withPhase w (up (opening (w .text) (w .log) n epoch first last .state)) (logOpened epoch)) _
+        same-by (reopen epoch first last) w s (openLog (w .text) n epoch first last) x out (withPhase w (up (opening (w .text) (w .log) n epoch first last .state)) (logOpened epoch)) _
         (is ∙ rw (e, low) refl) refl (rw e refl) (λ y n. refl)
 
     stays : (openingReply (w .text) (w .log) n epoch first last .number ≡ 0 → ⊥) → next (reopen epoch first last) w ≡ w

@@ -1,9 +1,7 @@
 -- What each item leaves alone, in every world.
 use Prim.Native.Nat.{ℕ, _-_}
-use mathlib.Core.Path.{_≡_, refl, sym, ap, _∙_}
+use mathlib.Core.Path.{_≡_, refl}
 use mathlib.Core.Bool.{false}
-use mathlib.Core.List.{List, [], map}
-use lib.ListN.{length, getD, length-map, List·getD-map}
 use Rattle.numbers.proofs.Tests.{not-both}
 use Rattle.answers.specs.Refusals.{firstRefusal}
 use Rattle.answers.specs.declared.Answer.the-variants.{Refused}
@@ -12,7 +10,7 @@ use Rattle.coordinator.specs.Coordinator.{Action, keep, logAfter}
 use Rattle.coordinator.specs.Flush.{flushTests, flush}
 use Rattle.coordinator.specs.Calls.{flushCall, actionOf}
 use Rattle.coordinator.specs.declared.Coordinator.{Coordinator}
-use Rattle.runs.specs.World.{Leader, openLeader, World, leaderAt, Lent, Item, call, coordinatorDoes, coordinatorElsewhere, step}
+use Rattle.runs.specs.World.{World, Lent, Item, call, coordinatorDoes, coordinatorElsewhere, step}
 use Rattle.runs.proofs.Cases.{while-up-cases, lent-cases}
 use Rattle.runs.proofs.Changes.{ofLog, Touches, step-changes}
 
@@ -59,16 +57,3 @@ pub flush-elsewhere : (n : ℕ) (s : Coordinator) (w : World) → coordinatorEls
 unfolding flush
 flush-elsewhere n s w =
     unless-does (firstRefusal (flushTests s n)) Refused keep _ (λ (a : Action). coordinatorElsewhere a s w ≡ coordinatorDoes a s w) refl (λ e. refl)
-
--- ---- lengths
-
--- how many words are lent to each leader
-abbrev pub wordsLength : Leader → ℕ
-wordsLength l = length (l .words)
-
-same-count : (v w : World) → map wordsLength (v .leaders) ≡ map wordsLength (w .leaders) → length (v .leaders) ≡ length (w .leaders)
-same-count v w e = sym (length-map (v .leaders) wordsLength) ∙ ap length e ∙ length-map (w .leaders) wordsLength
-
-same-length : (v w : World) → map wordsLength (v .leaders) ≡ map wordsLength (w .leaders) → (y : ℕ) → length (leaderAt v y .words) ≡ length (leaderAt w y .words)
-same-length v w e y =
-    sym (List·getD-map wordsLength (v .leaders) y (openLeader [])) ∙ ap (λ (l : List ℕ). getD l y 0) e ∙ List·getD-map wordsLength (w .leaders) y (openLeader [])

@@ -21,10 +21,10 @@ abbrev pub serverAt : Coordinator → World → ℕ → List ℕ → Server
 serverAt s w x out = record { coordinator = s; log = w .log; partition = leaderAt w x .partition; words = leaderAt w x .words; out = out }
 
 -- the item leaves what the call leaves, which is lent the leader at this position and this slice, and no other leader changes
-pub record Leaves (item : Item) (w : World) (s : Coordinator) (c : Call) (x : ℕ) (out : List ℕ) : Type 0 where
+pub record SameAsCall (item : Item) (w : World) (s : Coordinator) (c : Call) (x : ℕ) (out : List ℕ) : Type 0 where
   pub state : Coordinator
   pub still-up : next item w .phase ≡ up state
-  pub leaves : let after = afterCall c (serverAt s w x out) in after ≡ serverAt state (next item w) x (after .out)
+  pub same : let after = afterCall c (serverAt s w x out) in after ≡ serverAt state (next item w) x (after .out)
   pub others : (y : ℕ) → (y ≡ x → ⊥) → leaderAt (next item w) y ≡ leaderAt w y
 
 -- an Order's answer: the order that may be carried then, and that the history has, carries the results
@@ -49,27 +49,27 @@ pub record MarkerTaken (r : Reply) (i : ℕ) (o : Order) (after : Carrying) : Ty
 -- acknowledges what its partition refused.
 pub record SameCalls : Type 0 where
   -- Init, Add, End, Tick, Flush; an Ack too, which is in a list only as it is carried
-  pub calls : (w : World) (s : Coordinator) → w .phase ≡ up s → (c : CoordinatorCall) (x : ℕ) (out : List ℕ) → Leaves (call own c) w s (serverCall c) x out
+  pub calls : (w : World) (s : Coordinator) → w .phase ≡ up s → (c : CoordinatorCall) (x : ℕ) (out : List ℕ) → SameAsCall (call own c) w s (serverCall c) x out
   pub orders : (w : World) (s : Coordinator) → w .phase ≡ up s → (set x : ℕ) (out : List ℕ)
-      → Leaves (callOrder set) w s (orderCall set) x out
+      → SameAsCall (callOrder set) w s (orderCall set) x out
       × OrderTaken (answerOf (orderCall set) (serverAt s w x out)) w (next (callOrder set) w) (next (callOrder set) w .carrying)
   pub produces : (w : World) (s : Coordinator) → w .phase ≡ up s → (other : ℕ) (name : List ℕ) (pid epoch : ℤ) (position : ℕ) (sequence : ℤ) (payload : ℕ) (out : List ℕ)
       → let x = lentPartition s position other in let item = callProduce own other name pid epoch position sequence payload in
       x < length (w .leaders)
-      → Leaves item w s (produceCall name pid epoch position sequence payload) x out
+      → SameAsCall item w s (produceCall name pid epoch position sequence payload) x out
       × EntryTaken (answerOf (produceCall name pid epoch position sequence payload) (serverAt s w x out)) (w .history) (next item w .history)
       (record { name = padded nameMax name; pid = pid; epoch = epoch; position = x; sequence = sequence; payload = payload; offset = leaderAt w x .partition .end })
   -- the slice that Read copies into is apart from the world
-  pub reads : (w : World) (s : Coordinator) → w .phase ≡ up s → (x from : ℕ) (out : List ℕ) → Leaves (callRead own x from out) w s (readCall from) x out
+  pub reads : (w : World) (s : Coordinator) → w .phase ≡ up s → (x from : ℕ) (out : List ℕ) → SameAsCall (callRead own x from out) w s (readCall from) x out
   -- "To carry an order is to give it to its partition and, once that answered done, to call Ack"
   pub markers : (w : World) (s : Coordinator) → w .phase ≡ up s → (i : ℕ) (o : Order) → w .carrying ≡ toDeliver i o → o .position < length (w .leaders) → (out : List ℕ)
       → let c = markerCall (o .place) (o .pid) (o .epoch) (o .verdict) (o .coordinator) in
-      Leaves (deliver own i) w s c (o .position) out × MarkerTaken (answerOf c (serverAt s w (o .position) out)) i o (next (deliver own i) w .carrying)
+      SameAsCall (deliver own i) w s c (o .position) out × MarkerTaken (answerOf c (serverAt s w (o .position) out)) i o (next (deliver own i) w .carrying)
   pub acks : (w : World) (s : Coordinator) → w .phase ≡ up s → (i : ℕ) (o : Order) → w .carrying ≡ toAcknowledge i o → (x : ℕ) (out : List ℕ)
-      → Leaves (acknowledge own i) w s (serverCall (ackCall (o .place) (o .pid) (o .epoch) (o .position))) x out
+      → SameAsCall (acknowledge own i) w s (serverCall (ackCall (o .place) (o .pid) (o .epoch) (o .position))) x out
   -- "Openings, given the length left as log length, follow until one is accepted"
   pub openings : (w : World) (n before : ℕ) → w .phase ≡ down n before → (epoch first last : ℤ) → leZ (pos before) epoch ≡ true → (s : Coordinator) (x : ℕ) (out : List ℕ)
       → let c = openLog (w .text) n epoch first last in
       (answerOf c (serverAt s w x out) .number ≡ 0
-      → Leaves (reopen epoch first last) w s c x out)
+      → SameAsCall (reopen epoch first last) w s c x out)
       × ((answerOf c (serverAt s w x out) .number ≡ 0 → ⊥) → next (reopen epoch first last) w ≡ w)

@@ -19,10 +19,10 @@ pub data Item : Type 0 where
   call : Lent → CoordinatorCall → Item
   -- set of partitions that are up
   callOrder : ℕ → Item
-  -- name, pid, epoch, position, sequence, payload; the number before them is the partition that is lent if the position is outside the catalogue
-  callProduce : Lent → ℕ → List ℕ → ℤ → ℤ → ℕ → ℤ → ℕ → Item
-  -- position, offset, and the slice apart
-  callRead : Lent → ℕ → ℕ → List ℕ → Item
+  -- `other` is the partition that is lent if the position is outside the catalogue
+  callProduce : (lent : Lent) (other : ℕ) (name : List ℕ) (pid epoch : ℤ) (position : ℕ) (sequence : ℤ) (payload : ℕ) → Item
+  -- `out` is the slice apart
+  callRead : (lent : Lent) (position from : ℕ) (out : List ℕ) → Item
   -- the order of this event is given to its partition: Marker
   deliver : Lent → ℕ → Item
   -- "once that answered done, to call Ack"
@@ -30,7 +30,7 @@ pub data Item : Type 0 where
   -- the length that is left of the log
   cut : ℕ → Item
   -- an opening after a cut: coordinator epoch, first and last pid
-  reopen : ℤ → ℤ → ℤ → Item
+  reopen : (epoch first last : ℤ) → Item
 
 -- "Marker and Ack as 3 has them carried": an Ack that no order is carried for is in no list
 abbrev pub isAck : CoordinatorCall → Bool

@@ -1,7 +1,7 @@
 -- Laws of searching a list with a test: where the first element that passes is, and how many pass; of a sum over a list; and of a list of images.
 use Prim.Native.Nat.{ℕ, zero, suc, _+_, _*_, _≤_, _<_}
 use mathlib.Core.Path.{_≡_, refl, ap, _∙_}
-use mathlib.Core.Bool.{Bool, true, false, cond, not}
+use mathlib.Core.Bool.{Bool, true, false, cond}
 use mathlib.Core.Logic.{_↔_}
 use mathlib.Core.List.{List, [], _∷_, _++_, map}
 use native.Mathlib.Nat.{add-zero, zero-add, mul-add, mul-one}
@@ -64,11 +64,6 @@ module _ {A : Type 0} (p : A → Bool) where
   first-before (x ∷ l) d (suc j) h =
       either (p x) (λ e. absurd (omega (arith, hit x l e))) (λ e. first-before l d j (omega (arith, miss x l e)))
 
-  pub first-is : (l : List A) (d : A) (i : ℕ) → i < length l → p (getD l i d) ≡ true → ((j : ℕ) → j < i → p (getD l j d) ≡ false) → firstWhere p l ≡ i
-  first-is [] d i h e n = absurd (omega arith)
-  first-is (x ∷ l) d zero h e n = hit x l e
-  first-is (x ∷ l) d (suc i) h e n = miss x l (n 0 (omega arith)) ∙ ap suc (first-is l d i (omega arith) e (λ j k. n (suc j) (omega arith)))
-
   pub first-none : (l : List A) (d : A) → ((i : ℕ) → i < length l → p (getD l i d) ≡ false) → firstWhere p l ≡ length l
   first-none [] d n = none
   first-none (x ∷ l) d n = miss x l (n 0 (omega arith)) ∙ ap suc (first-none l d (λ i h. n (suc i) (omega arith)))
@@ -91,14 +86,6 @@ module _ {A : Type 0} (p : A → Bool) where
   first-set-other [] d i x f e = refl
   first-set-other (y ∷ l) d zero x f e = rw (f, e)
   first-set-other (y ∷ l) d (suc i) x f e = rw (first-set-other l d i x f e)
-
-  -- where fewer fail than there are, one passes
-  pub first-free : (l : List A) → countWhere (λ (x : A). not (p x)) l < length l → firstWhere p l < length l
-  unfolding countWhere
-  first-free [] h = absurd (omega arith)
-  first-free (x ∷ l) h =
-      either (p x) (λ e. omega (arith, hit x l e))
-      (λ e. let k : 1 + countWhere (λ (y : A). not (p y)) l < suc (length l) = rw e at h in omega (arith, miss x l e, first-free l (omega arith)))
 
   -- a search from a place on: at an element that passes
   pub first-here : (l : List A) (d : A) (i : ℕ) → i < length l → p (getD l i d) ≡ true → i + firstWhere p (drop i l) ≡ i

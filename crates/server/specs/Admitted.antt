@@ -20,8 +20,8 @@ openedWith text log n epoch first last words out =
 -- what comes next: a call, or other buffers that are lent to the calls from then on
 pub data Next : Type 0 where
   makes : Call → Next
-  -- log buffer, partition words, slice to read into
-  lend : List ℕ → List ℕ → List ℕ → Next
+  -- `out` is the slice to read into
+  lend : (log words out : List ℕ) → Next
 
 abbrev pub afterNext : Next → Server → Server
 afterNext (makes c) s = afterCall c s

@@ -28,19 +28,18 @@ pub record Server : Type 0 where
 -- the calls
 pub data Call : Type 0 where
   -- catalogue text, log length, coordinator epoch, first and last pid
-  openLog : List ℕ → ℕ → ℤ → ℤ → ℤ → Call
+  openLog : (text : List ℕ) (n : ℕ) (epoch first last : ℤ) → Call
   -- a partition is opened with the words lent
   openWords : Call
   -- Init, Add, End, Tick, Flush, Ack
   call : CoordinatorCall → Call
   -- set of partitions that are up
-  orderCall : ℕ → Call
-  -- name, pid, epoch, position, sequence, payload
-  produceCall : List ℕ → ℤ → ℤ → ℕ → ℤ → ℕ → Call
-  -- place, pid, epoch, verdict, coordinator epoch
-  markerCall : ℕ → ℤ → ℤ → ℕ → ℤ → Call
-  -- offset
-  readCall : ℕ → Call
+  orderCall : (up : ℕ) → Call
+  produceCall : (name : List ℕ) (pid epoch : ℤ) (position : ℕ) (sequence : ℤ) (payload : ℕ) → Call
+  -- `coordinator` is the coordinator epoch
+  markerCall : (place : ℕ) (pid epoch : ℤ) (verdict : ℕ) (coordinator : ℤ) → Call
+  -- the offset to read from
+  readCall : (from : ℕ) → Call
 
 -- the coordinator with its log buffer
 abbrev pub writerOf : Server → Writer

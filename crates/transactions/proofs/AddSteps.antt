@@ -23,7 +23,7 @@ use Rattle.answers.proofs.Laws.{after-none, after-next, after-all}
 use Rattle.table.specs.Table.{rowAt, idCount}
 use Rattle.table.specs.declared.Held.{Held}
 use Rattle.coordinator.specs.Coordinator.{logEnd, admits, clockAt, rowFrame, logFull, Action, advance, append, after, logAfter, Performed}
-use Rattle.coordinator.specs.Change.{unlessRefused, doneUnless, Leaves}
+use Rattle.coordinator.specs.Change.{unlessRefused, doneUnless, ActionPerformed}
 use Rattle.coordinator.specs.Add.{allJoined, addRow, addRowTests, addTests, addAction, add}
 use Rattle.coordinator.specs.declared.Coordinator.{Coordinator}
 use Rattle.coordinator.proofs.AddCases.{AddPassed, add-passed}
@@ -128,7 +128,7 @@ module _ (s : Coordinator) (n : ℕ) (name : List ℕ) (pid epoch : ℤ) (set : 
     unfolding addAt addAction
     decided z = rw (toZ-ofZ t, held-is .0 (passed z .named))
 
-    pub add-performs : (log : List ℕ) {answer : Answer} {made state : Coordinator} {out : List ℕ} → Leaves (unlessRefused r (addAt s (held .place) set (toZ w64 (ofZ w64 time)))) s log made out
+    pub add-performs : (log : List ℕ) {answer : Answer} {made state : Coordinator} {out : List ℕ} → ActionPerformed (unlessRefused r (addAt s (held .place) set (toZ w64 (ofZ w64 time)))) s log made out
         → (answer ≡ doneUnless r) × (state ≡ made) → Performed (add s n name pid epoch set time) s log answer state out
     unfolding add
     add-performs log h a =

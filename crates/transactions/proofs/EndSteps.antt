@@ -20,7 +20,7 @@ use Rattle.answers.proofs.Laws.{after-none, after-next, after-all}
 use Rattle.table.specs.Table.{rowAt}
 use Rattle.table.specs.declared.Held.{Held}
 use Rattle.coordinator.specs.Coordinator.{admits, clockAt, Action, advance, append, after, logAfter, Performed}
-use Rattle.coordinator.specs.Change.{unlessRefused, doneUnless, Leaves}
+use Rattle.coordinator.specs.Change.{unlessRefused, doneUnless, ActionPerformed}
 use Rattle.coordinator.specs.End.{endFits, endRowTests, endTests, endAction, end}
 use Rattle.coordinator.specs.declared.Coordinator.{Coordinator}
 use Rattle.coordinator.proofs.EndCases.{EndPassed, end-passed}
@@ -96,7 +96,7 @@ module _ (s : Coordinator) (n : ℕ) (name : List ℕ) (pid epoch : ℤ) (verdic
     unfolding endAt endAction
     decided z = rw (toZ-ofZ f, held-is .0 (passed z .named))
 
-    pub end-performs : (log : List ℕ) {answer : Answer} {made state : Coordinator} {out : List ℕ} → Leaves (unlessRefused r (endAt s (held .place) verdict (toZ w64 (ofZ w64 time)))) s log made out
+    pub end-performs : (log : List ℕ) {answer : Answer} {made state : Coordinator} {out : List ℕ} → ActionPerformed (unlessRefused r (endAt s (held .place) verdict (toZ w64 (ofZ w64 time)))) s log made out
         → (answer ≡ doneUnless r) × (state ≡ made) → Performed (end s n name pid epoch verdict time) s log answer state out
     unfolding end
     end-performs log h a =

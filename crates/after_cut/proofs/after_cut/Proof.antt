@@ -9,11 +9,6 @@ use Rattle.after_cut.specs.AfterCut.{carriesMax, carriedAll}
 use borrow.Author.Needs.{needs}
 use Rattle.after_cut.proofs.after_cut.Statement.{statement}
 use Rattle.after_cut.proofs.after_cut.Tie as tie
-use Rattle.after_cut.proofs.after_cut.Reads as reads
-use Rattle.after_cut.proofs.after_cut.Lts as lts
-use Rattle.after_cut.proofs.carry_all.Reads as carry-all-reads
-use Rattle.after_cut.proofs.perform.Reads as perform-reads
-use Rattle.numbers.proofs.minus.Reads as minus-reads
 
 minus-requires : tie.Need-minus-requires
 minus-requires c κs = search needs

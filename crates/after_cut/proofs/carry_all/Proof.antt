@@ -9,10 +9,6 @@ use Rattle.session.specs.Memory.{memory}
 use Rattle.after_cut.specs.AfterCut.{carriesMax, carriedAll}
 use Rattle.after_cut.proofs.carry_all.Statement.{statement}
 use Rattle.after_cut.proofs.carry_all.Tie as tie
-use Rattle.after_cut.proofs.carry_all.Reads as reads
-use Rattle.after_cut.proofs.carry_all.Lts as lts
-use Rattle.after_cut.proofs.carry_one.Reads as carry-one-reads
-use Rattle.after_cut.proofs.is_left.Reads as is-left-reads
 
 abbrev Inv-loop : tie.InvT-loop
 Inv-loop log₀ words₀ payloads₀ session₀ turns₀ log words payloads session turns =

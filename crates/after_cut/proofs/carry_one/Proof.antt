@@ -7,9 +7,6 @@ use Rattle.session.specs.Commands.{performed}
 use borrow.Author.Needs.{needs}
 use Rattle.after_cut.proofs.carry_one.Statement.{statement}
 use Rattle.after_cut.proofs.carry_one.Tie as tie
-use Rattle.after_cut.proofs.carry_one.Reads as reads
-use Rattle.after_cut.proofs.carry_one.Lts as lts
-use Rattle.after_cut.proofs.perform.Reads as perform-reads
 
 perform-requires : tie.Need-perform-requires
 perform-requires c κs = search needs

@@ -4,10 +4,6 @@ use Rattle.after_cut.specs.AfterCut.{isOrder}
 use borrow.Author.Needs.{needs}
 use Rattle.after_cut.proofs.is_left.Statement.{statement}
 use Rattle.after_cut.proofs.is_left.Tie as tie
-use Rattle.after_cut.proofs.is_left.Reads as reads
-use Rattle.after_cut.proofs.is_left.Lts as lts
-use Rattle.after_cut.proofs.is_order.Reads as is-order-reads
-use Rattle.completion.proofs.order.Reads as order-reads
 
 order-requires : tie.Need-order-requires
 order-requires c κs = search needs

@@ -12,57 +12,21 @@ Inv-loop call count log₀ epoch position s₀ sum₀ i₀ log s sum i = (length
 abbrev μ-loop : tie.MeasureT-loop
 μ-loop call count log₀ epoch position s₀ sum₀ i₀ log s sum i = count - i
 
-signed-16-requires : tie.Need-signed-16-requires Inv-loop μ-loop
-signed-16-requires c κs = search needs
-
-loop-holds : tie.Need-loop-holds Inv-loop μ-loop
-loop-holds c = search needs
-
-plus-requires : tie.Need-plus-requires Inv-loop μ-loop
-plus-requires c κs = search needs
-
-signed-plus-requires : tie.Need-signed-plus-requires Inv-loop μ-loop
-signed-plus-requires c κs = search needs
-
-ack-requires : tie.Need-ack-requires Inv-loop μ-loop
-ack-requires c κs = search needs
-
-with-done-requires : tie.Need-with-done-requires Inv-loop μ-loop
-with-done-requires c κs = search needs
-
-add-i : tie.Need-add-i Inv-loop μ-loop
-add-i c = search needs
-
-loop-less : tie.Need-loop-less Inv-loop μ-loop
-loop-less c = search needs
-
-loop-again : tie.Need-loop-again Inv-loop μ-loop
-loop-again c = search needs
-
-with-coordinator-requires : tie.Need-with-coordinator-requires Inv-loop μ-loop
-with-coordinator-requires c κs = search needs
-
-same-length : tie.Need-same-length Inv-loop μ-loop
-same-length c = search needs
-
-returns : tie.Need-returns Inv-loop μ-loop
-returns c = search needs
-
 pub ack-spec : {M : Type 1} → statement M
 ack-spec =
     tie.close
     (tie.spec
     Inv-loop
     μ-loop
-    signed-16-requires
-    loop-holds
-    plus-requires
-    signed-plus-requires
-    ack-requires
-    with-done-requires
-    add-i
-    loop-less
-    loop-again
-    with-coordinator-requires
-    same-length
-    returns)
+    (λ c κs. search needs)
+    (λ c. search needs)
+    (λ c κs. search needs)
+    (λ c κs. search needs)
+    (λ c κs. search needs)
+    (λ c κs. search needs)
+    (λ c. search needs)
+    (λ c. search needs)
+    (λ c. search needs)
+    (λ c κs. search needs)
+    (λ c. search needs)
+    (λ c. search needs))

@@ -1,6 +1,6 @@
 -- `lines::keep` meets its contract.
 use borrow.Author.Needs.{needs}
-use mathlib.Core.Path.{_≡_, _∙_}
+use mathlib.Core.Path.{_∙_}
 use native.Mathlib.Omega.{arith}
 use Rattle.lines.proofs.Steps.{drop-skipped, drop-full, keep-cursor, keep-bytes, keep-none}
 use Rattle.lines.proofs.keep.Statement.{statement}

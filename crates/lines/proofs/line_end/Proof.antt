@@ -1,5 +1,4 @@
 -- `lines::line_end` meets its contract.
-use Prim.Native.Nat.{_≤_}
 use mathlib.Core.Path.{_≡_, refl, sym, _∙_}
 use native.Mathlib.Omega.{arith}
 use Rattle.lines.specs.Cursor.{lineEnd}

@@ -1,6 +1,5 @@
 -- `lines::move_to_front` meets its contract.
 use Prim.Native.Nat.{_-_, _≤_}
-use mathlib.Core.Path.{_≡_}
 use native.Mathlib.Omega.{arith}
 use Rattle.lines.proofs.Moving.{Moved, moved-none, moved-more, moved-all}
 use Rattle.lines.proofs.move_to_front.Statement.{statement}

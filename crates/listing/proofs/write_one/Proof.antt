@@ -1,7 +1,6 @@
 -- `listing::write_one` meets its contract.
 use borrow.Author.Needs.{needs}
 use native.Mathlib.Omega.{arith}
-use mathlib.Core.List.{[]}
 use mir.Facts.{toZ-ofZ}
 use Rattle.text.specs.Decimal.{signedDecimal}
 use Rattle.text.proofs.Lines.{last-wrote}

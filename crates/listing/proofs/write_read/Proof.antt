@@ -1,11 +1,6 @@
 -- `listing::write_read` meets its contract.
 use borrow.Author.Needs.{needs}
-use mathlib.Core.Path.{_≡_, sym, ap, _∙_}
-use mathlib.Core.List.{List, [], map}
 use native.Mathlib.Omega.{arith}
-use Prim.Native.Nat.{ℕ}
-use Rattle.text.specs.Decimal.{decimal}
-use Rattle.text.specs.Lines.{fields}
 use Rattle.text.proofs.Lines.{last-wrote}
 use Rattle.listing.specs.Listing.{none}
 use Rattle.listing.proofs.Payloads.{no-payload, no-payloads, some-payloads, all-payloads}

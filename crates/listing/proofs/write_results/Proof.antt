@@ -1,6 +1,5 @@
 -- `listing::write_results` meets its contract.
 use borrow.Author.Needs.{needs}
-use mathlib.Core.List.{[]}
 use native.Mathlib.Omega.{arith}
 use mir.Syntax.{w64}
 use mir.Val.{SFits}

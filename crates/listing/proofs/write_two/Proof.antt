@@ -4,7 +4,7 @@ use native.Mathlib.Omega.{arith}
 use mathlib.Core.List.{[], _∷_}
 use mir.Facts.{toZ-ofZ}
 use Rattle.text.specs.Decimal.{signedDecimal}
-use Rattle.listing.proofs.Writing.{signed-short, same-room, field-behind}
+use Rattle.listing.proofs.Writing.{signed-short, field-behind}
 use Rattle.listing.proofs.write_two.Statement.{statement}
 use Rattle.listing.proofs.write_two.Tie as tie
 

@@ -5,7 +5,7 @@ use Rattle.row.specs.Row.{isBegin}
 use Rattle.row.specs.Steps.{prepared, fenced, raise}
 use Rattle.row.specs.declared.Row.{Row}
 use Rattle.coordinator.specs.Coordinator.{clockAt}
-use Rattle.coordinator.proofs.Changes.{leaves-accepted, leaves-refused}
+use Rattle.coordinator.proofs.Changes.{action-accepted, action-refused}
 use Rattle.coordinator.proofs.Laws.{fits-begun}
 use Rattle.coordinator.proofs.Named.{clock-is, tested-at}
 use Rattle.producer_ids.specs.Parts.{initAt}
@@ -21,7 +21,7 @@ returns : tie.Need-returns
 returns c =
     let t = c .before in
     let a = t .before .before .args in
-    leaves-refused (initAt (a .held) (a .free) (a .new) (clockAt (a .s) (a .time))) (a .s) (a .log .now) (t .if1 .taken) (c .unchanged .ensures)
+    action-refused (initAt (a .held) (a .free) (a .new) (clockAt (a .s) (a .time))) (a .s) (a .log .now) (t .if1 .taken) (c .unchanged .ensures)
 
 is-begin-requires : tie.Need-is-begin-requires
 is-begin-requires c κs = search needs
@@ -59,7 +59,7 @@ returns-2 c =
     let x = b .before .before .before in
     let s = x .before .before in
     let a = s .args in
-    leaves-accepted (initAt (a .held) (a .free) (a .new) (clockAt (a .s) (a .time))) (a .s) (a .log .now) (x .if1 .left)
+    action-accepted (initAt (a .held) (a .free) (a .new) (clockAt (a .s) (a .time))) (a .s) (a .log .now) (x .if1 .left)
     (init-fences (a .s) (a .held) (a .free) (a .new) (clockAt (a .s) (a .time)) (a .log .now) (b .is-begin .ensures) (t .if2 .taken)
     (f .fence .ensures ∙ ap (prepared (a .held .row) PrepareAbort (raise fenced (a .held .row .epoch))) (clock-is (a .s) (s .fits .time) (k .later .ensures))) (c .appended .ensures) (w .write-row .ensures .1))
 
@@ -87,7 +87,7 @@ returns-3 c =
     let b = e .before in
     let x = b .before .before .before in
     let a = x .before .before .args in
-    leaves-accepted (initAt (a .held) (a .free) (a .new) (clockAt (a .s) (a .time))) (a .s) (a .log .now) (x .if1 .left)
+    action-accepted (initAt (a .held) (a .free) (a .new) (clockAt (a .s) (a .time))) (a .s) (a .log .now) (x .if1 .left)
     (init-appends (a .s) (a .held) (a .free) (a .new) (clockAt (a .s) (a .time)) (a .log .now) (b .is-begin .ensures) (e .if2 .left) (p .place-for .ensures) (c .appended2 .ensures) (w .write-row2 .ensures .1))
 
 pub init-change-spec : {M : Type 1} → statement M

@@ -2,7 +2,6 @@
 use native.Mathlib.Omega.{arith}
 use borrow.Author.Tests.{lt-ltb, le-ltb}
 use Rattle.answers.specs.Limits.{places}
-use borrow.Author.Needs.{needs}
 use Rattle.producer_ids.proofs.place_for.Statement.{statement}
 use Rattle.producer_ids.proofs.place_for.Tie as tie
 

@@ -1,5 +1,5 @@
 -- `transactions::add_change` meets its contract.
-use Rattle.coordinator.proofs.Changes.{leaves-accepted, leaves-refused}
+use Rattle.coordinator.proofs.Changes.{action-accepted, action-refused}
 use Rattle.coordinator.proofs.Named.{clock-is}
 use Rattle.transactions.specs.Parts.{addAt}
 use Rattle.transactions.proofs.AddSteps.{add-advances, add-fits, add-appends}
@@ -14,7 +14,7 @@ returns : tie.Need-returns
 returns c =
     let t = c .before in
     let a = t .before .before .args in
-    leaves-refused (addAt (a .s) (a .held .place) (a .set) (a .time)) (a .s) (a .log .now) (t .if1 .taken) (c .unchanged .ensures)
+    action-refused (addAt (a .s) (a .held .place) (a .set) (a .time)) (a .s) (a .log .now) (t .if1 .taken) (c .unchanged .ensures)
 
 later-requires : tie.Need-later-requires
 later-requires c κs = search needs
@@ -33,7 +33,7 @@ returns-2 c =
     let x = k .before in
     let s = x .before .before in
     let a = s .args in
-    leaves-accepted (addAt (a .s) (a .held .place) (a .set) (a .time)) (a .s) (a .log .now) (x .if1 .left)
+    action-accepted (addAt (a .s) (a .held .place) (a .set) (a .time)) (a .s) (a .log .now) (x .if1 .left)
     (add-advances (a .s) (a .held .place) (a .set) (a .time) (a .log .now) (clock-is (a .s) (s .fits .time) (k .later .ensures)) (s .pre (x .if1 .left) .1) (j .all-joined .ensures) (e .if2 .taken) (c .advanced .ensures))
 
 add-row-requires : tie.Need-add-row-requires
@@ -66,7 +66,7 @@ returns-3 c =
     let x = k .before in
     let s = x .before .before in
     let a = s .args in
-    leaves-accepted (addAt (a .s) (a .held .place) (a .set) (a .time)) (a .s) (a .log .now) (x .if1 .left)
+    action-accepted (addAt (a .s) (a .held .place) (a .set) (a .time)) (a .s) (a .log .now) (x .if1 .left)
     (add-appends (a .s) (a .held .place) (a .set) (a .time) (a .log .now) (clock-is (a .s) (s .fits .time) (k .later .ensures)) (s .pre (x .if1 .left) .1) (j .all-joined .ensures) (e .if2 .left) (w .add-row .ensures) (c .appended .ensures) (n .write-row .ensures .1))
 
 pub add-change-spec : {M : Type 1} → statement M

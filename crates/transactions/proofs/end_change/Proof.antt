@@ -2,7 +2,7 @@
 use borrow.Author.Tests.{not-true, not-false}
 use Rattle.row.specs.Row.{isBegin}
 use Rattle.row.specs.declared.Row.{Row}
-use Rattle.coordinator.proofs.Changes.{leaves-accepted, leaves-refused}
+use Rattle.coordinator.proofs.Changes.{action-accepted, action-refused}
 use Rattle.coordinator.proofs.Laws.{fits-begun}
 use Rattle.coordinator.proofs.Named.{clock-is, tested-at}
 use Rattle.transactions.specs.Parts.{endAt}
@@ -18,7 +18,7 @@ returns : tie.Need-returns
 returns c =
     let t = c .before in
     let a = t .before .before .args in
-    leaves-refused (endAt (a .s) (a .held .place) (a .verdict) (a .time)) (a .s) (a .log .now) (t .if1 .taken) (c .unchanged .ensures)
+    action-refused (endAt (a .s) (a .held .place) (a .verdict) (a .time)) (a .s) (a .log .now) (t .if1 .taken) (c .unchanged .ensures)
 
 later-requires : tie.Need-later-requires
 later-requires c κs = search needs
@@ -37,7 +37,7 @@ returns-2 c =
     let x = k .before in
     let s = x .before .before in
     let a = s .args in
-    leaves-accepted (endAt (a .s) (a .held .place) (a .verdict) (a .time)) (a .s) (a .log .now) (x .if1 .left)
+    action-accepted (endAt (a .s) (a .held .place) (a .verdict) (a .time)) (a .s) (a .log .now) (x .if1 .left)
     (end-advances (a .s) (a .held .place) (a .verdict) (a .time) (a .log .now) (clock-is (a .s) (s .fits .time) (k .later .ensures)) (s .pre (x .if1 .left) .1) (b .is-begin .ensures) (not-true _ (e .if2 .taken)) (c .advanced .ensures))
 
 prepare-of-requires : tie.Need-prepare-of-requires
@@ -73,7 +73,7 @@ returns-3 c =
     let x = k .before in
     let s = x .before .before in
     let a = s .args in
-    leaves-accepted (endAt (a .s) (a .held .place) (a .verdict) (a .time)) (a .s) (a .log .now) (x .if1 .left)
+    action-accepted (endAt (a .s) (a .held .place) (a .verdict) (a .time)) (a .s) (a .log .now) (x .if1 .left)
     (end-appends (a .s) (a .held .place) (a .verdict) (a .time) (a .log .now) (clock-is (a .s) (s .fits .time) (k .later .ensures)) (s .pre (x .if1 .left) .1) (b .is-begin .ensures) (not-false _ (e .if2 .left))
     (p .prepare-of .ensures) (w .prepared .ensures) (c .appended .ensures) (n .write-row .ensures .1))
 

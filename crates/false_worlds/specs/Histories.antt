@@ -64,8 +64,8 @@ abbrev pub followed : Record → History
 followed r = recordAppended r 260 ∷ committing
 
 -- a world that has this history, and nothing else
-abbrev pub told : History → World
-told h = record { text = scanText; log = []; phase = up blankState; leaders = []; carrying = nothing; history = h }
+abbrev pub withHistory : History → World
+withHistory h = record { text = scanText; log = []; phase = up blankState; leaders = []; carrying = nothing; history = h }
 
 -- ---- orders and entries
 

@@ -6,8 +6,36 @@ use partition::Partition;
 // The sign of a number of 64 bits.
 const SIGN: u64 = 1u64 << 63;
 
+// The kinds of calls, by the numbers of a script. `HELD` shows what is held at a place; `UNKNOWN` is the kind of no call, and the number of the answer to one.
+pub const OPEN: u64 = 0;
+
+pub const OPEN_PARTITION: u64 = 1;
+
+pub const INIT: u64 = 2;
+
+pub const ADD: u64 = 3;
+
+pub const END: u64 = 4;
+
+pub const TICK: u64 = 5;
+
+pub const FLUSH: u64 = 6;
+
+pub const ORDER: u64 = 7;
+
+pub const ACK: u64 = 8;
+
+pub const PRODUCE: u64 = 9;
+
+pub const MARKER: u64 = 10;
+
+pub const READ: u64 = 11;
+
+pub const HELD: u64 = 12;
+
+pub const UNKNOWN: u64 = 99;
+
 // A call: its kind, the bytes of the log and the words that it is lent, the part of the names that is its name, and its arguments in document 01's order.
-// The kinds: 0 opening of a log, 1 of a partition, 2 Init, 3 Add, 4 End, 5 Tick, 6 Flush, 7 Order, 8 Ack, 9 Produce, 10 Marker, 11 Read, 12 what is held at a place.
 pub struct Call {
     pub kind: u64,
     pub bytes: usize,
@@ -28,7 +56,7 @@ pub struct Server {
 }
 
 // A call that was made: the state after it, and its answer.
-pub struct Made {
+pub struct Performed {
     pub server: Server,
     pub outcome: Outcome,
 }
@@ -58,20 +86,20 @@ pub fn signed_64(x: u64) -> i64 {
 
 // ---- The calls.
 
-fn with_coordinator(s: Server, c: Coordinator, outcome: Outcome) -> Made {
+fn with_coordinator(s: Server, c: Coordinator, outcome: Outcome) -> Performed {
     let mut server = s;
     server.coordinator = c;
-    Made { server, outcome }
+    Performed { server, outcome }
 }
 
-pub fn with_partition(s: Server, p: Partition, outcome: Outcome) -> Made {
+pub fn with_partition(s: Server, p: Partition, outcome: Outcome) -> Performed {
     let mut server = s;
     server.partition = p;
-    Made { server, outcome }
+    Performed { server, outcome }
 }
 
 // The state of an accepted opening, or else the one before it.
-pub fn open(s: Server, call: Call, text: &[u8], log: &[u8]) -> Made {
+pub fn open(s: Server, call: Call, text: &[u8], log: &[u8]) -> Performed {
     let opened_log = calls::opening(
         text,
         log,
@@ -81,18 +109,15 @@ pub fn open(s: Server, call: Call, text: &[u8], log: &[u8]) -> Made {
         signed_64(call.fourth),
     );
     let answer = opened_log.answer;
-    let told = bench_answers::opened(answer);
-    if told.number != 0 {
-        return Made {
-            server: s,
-            outcome: told,
-        };
+    let outcome = bench_answers::opened(answer);
+    if outcome.number != 0 {
+        return Performed { server: s, outcome };
     }
     let state = opened_log.state;
-    with_coordinator(s, state, told)
+    with_coordinator(s, state, outcome)
 }
 
-pub fn init(s: Server, call: Call, log: &mut [u8], name: &[u8]) -> Made {
+pub fn init(s: Server, call: Call, log: &mut [u8], name: &[u8]) -> Performed {
     let c = s.coordinator;
     let made = calls::init(c, log, name, signed_32(call.first), signed_64(call.second));
     let answer = made.answer;
@@ -100,7 +125,7 @@ pub fn init(s: Server, call: Call, log: &mut [u8], name: &[u8]) -> Made {
     with_coordinator(s, state, bench_answers::initialized(answer))
 }
 
-pub fn add(s: Server, call: Call, log: &mut [u8], name: &[u8]) -> Made {
+pub fn add(s: Server, call: Call, log: &mut [u8], name: &[u8]) -> Performed {
     let c = s.coordinator;
     let made = calls::add(
         c,
@@ -116,7 +141,7 @@ pub fn add(s: Server, call: Call, log: &mut [u8], name: &[u8]) -> Made {
     with_coordinator(s, state, bench_answers::done(answer))
 }
 
-pub fn end(s: Server, call: Call, log: &mut [u8], name: &[u8]) -> Made {
+pub fn end(s: Server, call: Call, log: &mut [u8], name: &[u8]) -> Performed {
     let c = s.coordinator;
     let made = calls::end(
         c,
@@ -132,7 +157,7 @@ pub fn end(s: Server, call: Call, log: &mut [u8], name: &[u8]) -> Made {
     with_coordinator(s, state, bench_answers::done(answer))
 }
 
-pub fn tick(s: Server, call: Call, log: &mut [u8]) -> Made {
+pub fn tick(s: Server, call: Call, log: &mut [u8]) -> Performed {
     let c = s.coordinator;
     let made = calls::tick(c, log, signed_64(call.first));
     let answer = made.answer;
@@ -140,7 +165,7 @@ pub fn tick(s: Server, call: Call, log: &mut [u8]) -> Made {
     with_coordinator(s, state, bench_answers::ticked(answer))
 }
 
-pub fn flush(s: Server, call: Call) -> Made {
+pub fn flush(s: Server, call: Call) -> Performed {
     let c = s.coordinator;
     let made = calls::flush(c, call.first as usize);
     let answer = made.answer;
@@ -148,16 +173,16 @@ pub fn flush(s: Server, call: Call) -> Made {
     with_coordinator(s, state, bench_answers::done(answer))
 }
 
-pub fn order(s: Server, call: Call) -> Made {
+pub fn order(s: Server, call: Call) -> Performed {
     let c = s.coordinator;
     let answer = calls::order(c, call.first);
-    Made {
+    Performed {
         server: s,
         outcome: bench_answers::ordered(answer),
     }
 }
 
-pub fn ack(s: Server, call: Call, log: &mut [u8]) -> Made {
+pub fn ack(s: Server, call: Call, log: &mut [u8]) -> Performed {
     let c = s.coordinator;
     let made = calls::ack(
         c,
@@ -172,7 +197,7 @@ pub fn ack(s: Server, call: Call, log: &mut [u8]) -> Made {
     with_coordinator(s, state, bench_answers::done(answer))
 }
 
-pub fn produce(s: Server, call: Call, words: &mut [u64], name: &[u8]) -> Made {
+pub fn produce(s: Server, call: Call, words: &mut [u64], name: &[u8]) -> Performed {
     let c = s.coordinator;
     let p = s.partition;
     let made = calls::produce(
@@ -191,7 +216,7 @@ pub fn produce(s: Server, call: Call, words: &mut [u64], name: &[u8]) -> Made {
     with_partition(s, state, bench_answers::produced(answer))
 }
 
-pub fn marker(s: Server, call: Call, words: &mut [u64]) -> Made {
+pub fn marker(s: Server, call: Call, words: &mut [u64]) -> Performed {
     let p = s.partition;
     let made = calls::marker(
         p,
@@ -208,7 +233,7 @@ pub fn marker(s: Server, call: Call, words: &mut [u64]) -> Made {
 }
 
 // Read into the part of out that the call says.
-pub fn read(s: Server, call: Call, words: &[u64], out: &mut [u64]) -> Made {
+pub fn read(s: Server, call: Call, words: &[u64], out: &mut [u64]) -> Performed {
     let p = s.partition;
     let from = call.second as usize;
     let to = call.third as usize;
@@ -219,16 +244,16 @@ pub fn read(s: Server, call: Call, words: &[u64], out: &mut [u64]) -> Made {
         return unknown(s);
     }
     let answer = calls::read(p, words, call.first as usize, &mut out[from..to]);
-    Made {
+    Performed {
         server: s,
         outcome: bench_answers::copied(answer),
     }
 }
 
 // A call that cannot be made.
-pub fn unknown(s: Server) -> Made {
-    Made {
+pub fn unknown(s: Server) -> Performed {
+    Performed {
         server: s,
-        outcome: bench_answers::told_of(99, 0, 0),
+        outcome: bench_answers::outcome_of(UNKNOWN, 0, 0),
     }
 }
