@@ -5,7 +5,9 @@ use mathlib.Core.List.{List, [], _∷_}
 use lib.ListN.{replicate}
 use Rattle.record.specs.declared.Status.the-variants.{Begin}
 use Rattle.coordinator.specs.Open.{blankState}
+use Rattle.partition.specs.Partition.{openPartition}
 use Rattle.partition.specs.declared.Producer.{Producer}
+use Rattle.server.specs.Calls.{Server}
 use Rattle.runs.specs.History.{History, markerWritten, entryWritten}
 use Rattle.runs.specs.World.{Leader, World, up, nothing}
 use Rattle.false_worlds.specs.Made.{begun, order7, entry7, state, rowIn, leaderOf, worldOf}
@@ -26,6 +28,22 @@ wrongSlice ownLog = worldOf (replicate 4 0) (up (state (rowIn Begin 1 0 ∷ []) 
 wrongSlice otherWords =
     worldOf [] (up blankState) (record { partition = record { room = 5; end = 0; producers = []; coordinator = 0 }; words = replicate 4 0 } ∷ []) nothing []
 wrongSlice ownWords = worldOf [] (up blankState) (leaderOf (replicate 4 0) 1 (opened ∷ []) 0 ∷ []) nothing []
+
+-- servers that refuse the length that they were opened with, because the reserve is spent
+pub data SpentServer : Type 0 where
+  spentLog spentWords : SpentServer
+
+abbrev pub spentServer : SpentServer → Server
+spentServer spentLog =
+    record { coordinator = state (rowIn Begin 1 0 ∷ []) 0 0 4; log = replicate 4 0; partition = openPartition 0; words = []; out = [] }
+spentServer spentWords =
+    record {
+      coordinator = blankState;
+      log = [];
+      partition = record { room = 4; end = 1; producers = opened ∷ []; coordinator = 0 };
+      words = replicate 4 0;
+      out = [];
+    }
 
 pub data WrongRead : Type 0 where
   -- Read finds a COMMIT that was not written, another verdict, or no marker where one was

@@ -132,8 +132,8 @@ pub demanded-again : Demand2 → (n : ℕ) (o : AcceptedOpening scanText n) → 
 demanded-again d n o = d .opens-again scanText n o writerItems
 
 -- demand 1: Order refuses nothing and Flush only with 7; a refusal leaves all as it was
-pub demanded-order : Demand1 → (up : ℕ) (s : Server) → among (answerOf (orderCall up) s .number) (0 ∷ []) ≡ true
-demanded-order d up s = d .numbered (orderCall up) s
+pub demanded-order : Demand1 → (set : ℕ) (s : Server) → among (answerOf (orderCall set) s .number) (0 ∷ []) ≡ true
+demanded-order d set s = d .numbered (orderCall set) s
 
 pub demanded-flush : Demand1 → (n : ℕ) (s : Server) → among (answerOf (call (flushCall n)) s .number) (0 ∷ 7 ∷ []) ≡ true
 demanded-flush d n s = d .numbered (call (flushCall n)) s
