@@ -105,7 +105,7 @@ abbrev pub writesOne : List Call
 writesOne = opens ++ (init7 (pos 60000) ∷ flushed 53 ∷ addAt 0 257 110 ∷ flushed 134 ∷ put ∷ [])
 
 abbrev pub preparesMarked : List Call
-preparesMarked = writesOne ++ (addAt 0 256 115 ∷ tickAt 118 ∷ endAt 0 0 120 ∷ flushed 215 ∷ orderCall 257 ∷ mark 0 ∷ mark 0 ∷ readCall 0 ∷ ackAt 0 0 ∷ [])
+preparesMarked = writesOne ++ (endAt 0 0 120 ∷ flushed 215 ∷ orderCall 257 ∷ mark 0 ∷ mark 0 ∷ readCall 0 ∷ ackAt 0 0 ∷ [])
 
 abbrev pub begin257 : Row
 begin257 = record7 Begin 0 257 110 110
@@ -119,7 +119,9 @@ bufferLines =
     record { calls = opens; records = []; entries = [] } ∷
     -- Init, Add and Produce write their record or entry; Flush writes nothing
     record { calls = writesOne; records = empty7 ∷ begin257 ∷ []; entries = 1000 ∷ 0 ∷ 0 ∷ 502 ∷ [] } ∷
-    -- Add of what is joined, Tick with none, Order, a second Marker, Read and an Ack that is not the last write nothing
+    -- nor do an Add of what is joined and a Tick with none
+    record { calls = writesOne ++ (addAt 0 256 115 ∷ tickAt 118 ∷ []); records = empty7 ∷ begin257 ∷ []; entries = 1000 ∷ 0 ∷ 0 ∷ 502 ∷ [] } ∷
+    -- End and Marker write; Order, a second Marker, Read and an Ack that is not the last write nothing
     record { calls = preparesMarked; records = empty7 ∷ begin257 ∷ prepare257 ∷ []; entries = 1000 ∷ 0 ∷ 0 ∷ 502 ∷ 1000 ∷ 1 ∷ 1 ∷ 0 ∷ [] } ∷
     -- the last Ack writes its record; an opening that drops a part of it writes nothing
     record {

@@ -17,7 +17,7 @@ use Rattle.partition.specs.Read.{nextMarker, committed, copy, readTests, readAn
 use Rattle.server.specs.Admitted.{Admits}
 use Rattle.runs.specs.History.{collect, collectWithBefore}
 use Rattle.runs.specs.InEveryRun.{AdmitsExactly, ReadsCommitted}
-use Rattle.false_worlds.specs.Slices.{WrongSlice, otherLog, ownLog, otherWords, ownWords, wrongSlice, SpentServer, spentLog, spentWords, spentServer, WrongRead, madeUpMarker, otherMarker, missedMarker, unsettled, madeUpCount, madeUpPayload, wrongRead}
+use Rattle.false_worlds.specs.Slices.{WrongSlice, otherLog, ownLog, otherWords, ownWords, wrongSlice, SpentServer, spentLog, spentWords, spentServer, WrongRead, madeUpMarker, otherMarker, missedMarker, unsettled, madeUpCount, madeUpPayload, laterPayload, wrongRead}
 use Rattle.false_worlds.proofs.Differ.{apart, differ, differ-lists, fails, passes}
 
 pub not-admitted-exactly : (x : WrongSlice) → AdmitsExactly (wrongSlice x) → ⊥
@@ -44,3 +44,5 @@ not-read-committed madeUpCount = λ k.
     (here 0 (leb-true 0 2 refl) (0 ∷ []) .answers)
 not-read-committed madeUpPayload = λ k.
     let (here, rest) = k .reads in differ-lists (501 ∷ []) (502 ∷ []) refl refl (here 0 (leb-true 0 2 refl) (0 ∷ []) .copies)
+not-read-committed laterPayload = λ k.
+    let (here, rest) = k .reads in differ-lists (502 ∷ []) (503 ∷ []) refl refl (here 1 (leb-true 1 3 refl) (0 ∷ []) .copies)

@@ -52,6 +52,8 @@ pub data WrongRead : Type 0 where
   unsettled : WrongRead
   -- a made-up count, and a made-up payload
   madeUpCount madeUpPayload : WrongRead
+  -- a made-up payload of the second entry, read from there
+  laterPayload : WrongRead
 
 -- partition 0 with these entries and no open transaction
 abbrev pub readOf : List ℕ → ℕ → History → World
@@ -71,3 +73,6 @@ wrongRead missedMarker = readOf entryWords 1 (markerWritten (order7 4 1000 0 0 0
 wrongRead unsettled = readOf entryWords 1 (entryWritten (entry7 0 0 501 0) ∷ begun)
 wrongRead madeUpCount = readOf committedWords 2 begun
 wrongRead madeUpPayload = readOf committedWords 2 (markerWritten (order7 4 1000 0 0 0) ∷ entryWritten (entry7 0 0 502 0) ∷ begun)
+wrongRead laterPayload =
+    readOf (1000 ∷ 0 ∷ 0 ∷ 501 ∷ 1000 ∷ 0 ∷ 1 ∷ 502 ∷ 1000 ∷ 1 ∷ 1 ∷ 0 ∷ []) 3
+    (markerWritten (order7 4 1000 0 0 0) ∷ entryWritten (entry7 0 1 503 1) ∷ entryWritten (entry7 0 0 501 0) ∷ begun)

@@ -1,11 +1,11 @@
 -- What the demands, taken as premises, say of the example: a demand whose statement is emptied, or has a premise that the example does not meet, fails here.
-use Prim.Native.Nat.{ℕ}
+use Prim.Native.Nat.{ℕ, _+_}
 use mathlib.Core.Bool.{true}
-use mathlib.Core.List.{List, [], _∷_}
+use mathlib.Core.List.{List, [], _∷_, _++_}
 use lib.IntN.{pos}
 use lib.ListN.{length, take}
 use Rattle.coordinator.specs.declared.Coordinator.{Coordinator}
-use Rattle.writable_logs.specs.Demand2.{Demand2, InOrder, Openable, FirstBad, TableSays, ReadsBack, writtenBy, OpensAgain}
+use Rattle.writable_logs.specs.Demand2.{Demand2, InOrder, Openable, FirstBad, TableSays, writtenBy, OpensAgain}
 use Rattle.writable_logs.specs.RecordsSay.{PlacesByAppearance}
 use Rattle.writable_logs.specs.Writer.{openingReply, CouldWrite, AcceptedOpening, writes, writerFrom}
 use Rattle.server.specs.Lines.{scanText, afterAll}
@@ -28,11 +28,11 @@ use Rattle.catalogue.specs.Catalogue.{nameByte, nameRun, isLine, lineAt, isNew,
 use Rattle.record.specs.Record.{nameBytes, nameFits, validName, joinedFits, startFits, fieldsFit, wellFormed}
 use Rattle.record.specs.Frame.{key, partitionBytes, topicEntry, topicBytes, topicsBelow, countBelow, topics, value, frame}
 use Rattle.record.specs.Topics.{withPartition, partitionsBelow, partitionsOf, partitionsAt, nameStands, topicAt, past, walk}
-use Rattle.record.specs.Reading.{candidate, judged, readFrame}
+use Rattle.record.specs.Reading.{candidate, judged, readFrame, whole}
 use Rattle.record.specs.declared.Record.{Record}
 use Rattle.succession.specs.Moves.{mayFollowStatus}
 use Rattle.succession.specs.Succession.{first, initializes, begins, widens, preparesCommit, preparesAbort, completes, keeps, follows}
-use Rattle.search.specs.Search.{firstWhere, countWhere, sumOf, find, findLast, filter, Each}
+use Rattle.search.specs.Search.{firstWhere, countWhere, sumOf, find, findLast, filter}
 use Rattle.answers.specs.Answers.{openReply}
 use Rattle.answers.specs.Refusals.{firstRefusal, among}
 use Rattle.table.specs.Next.{succeeds, mayCome}
@@ -105,24 +105,25 @@ module _ (d : Demand2) (log : List ℕ) (i : InOrder scanText log lengthLeft (po
   demanded-written e = d .opened-iff scanText log lengthLeft (pos 2) (pos 1000) (pos 1999) i .0 e
 
 -- the offset of a bad frame, the opened table and its places
-module _ (d : Demand2) (log : List ℕ) where
-  pub demanded-offset : (offset : ℕ) → openingReply scanText log lengthLeft (pos 2) (pos 1000) (pos 1999) ≡ record { number = 6; results = pos offset ∷ [] } → FirstBad scanText (take lengthLeft log) offset
-  demanded-offset offset = d .bad-offset scanText log lengthLeft offset (pos 2) (pos 1000) (pos 1999)
+pub demanded-offset : Demand2 → (log : List ℕ) (offset : ℕ) → openingReply scanText log lengthLeft (pos 2) (pos 1000) (pos 1999) ≡ record { number = 6; results = pos offset ∷ [] }
+    → FirstBad scanText (take lengthLeft log) offset
+demanded-offset d log offset = d .bad-offset scanText log lengthLeft offset (pos 2) (pos 1000) (pos 1999)
 
-  pub demanded-table : openingReply scanText log lengthLeft (pos 2) (pos 1000) (pos 1999) .number ≡ 0
-      → Openable scanText (take lengthLeft log) leftRecords leftRest
-      → (opening scanText log lengthLeft (pos 2) (pos 1000) (pos 1999) .state ≡ takenOver (parse scanText .catalogue) (tableOf (parse scanText .catalogue) leftRecords) (length log) (pos 2) (pos 1000) (pos 1999))
-      × TableSays (parse scanText .catalogue) leftRecords (opening scanText log lengthLeft (pos 2) (pos 1000) (pos 1999) .state .table)
-  demanded-table = d .table-says scanText log lengthLeft (pos 2) (pos 1000) (pos 1999) leftRecords leftRest
+pub demanded-table : Demand2 → (log : List ℕ) → openingReply scanText log lengthLeft (pos 2) (pos 1000) (pos 1999) .number ≡ 0
+    → Openable scanText (take lengthLeft log) leftRecords leftRest
+    → (opening scanText log lengthLeft (pos 2) (pos 1000) (pos 1999) .state ≡ takenOver (parse scanText .catalogue) (tableOf (parse scanText .catalogue) leftRecords) (length log) (pos 2) (pos 1000) (pos 1999))
+    × TableSays (parse scanText .catalogue) leftRecords (opening scanText log lengthLeft (pos 2) (pos 1000) (pos 1999) .state .table)
+demanded-table d log = d .table-says scanText log lengthLeft (pos 2) (pos 1000) (pos 1999) leftRecords leftRest
 
-  pub demanded-places : openingReply scanText log lengthLeft (pos 2) (pos 1000) (pos 1999) .number ≡ 0
-      → Openable scanText (take lengthLeft log) leftRecords leftRest
-      → PlacesByAppearance leftRecords (opening scanText log lengthLeft (pos 2) (pos 1000) (pos 1999) .state .table)
-  demanded-places = d .places-appear scanText log lengthLeft (pos 2) (pos 1000) (pos 1999) leftRecords leftRest
+pub demanded-places : Demand2 → (log : List ℕ) → openingReply scanText log lengthLeft (pos 2) (pos 1000) (pos 1999) .number ≡ 0
+    → Openable scanText (take lengthLeft log) leftRecords leftRest
+    → PlacesByAppearance leftRecords (opening scanText log lengthLeft (pos 2) (pos 1000) (pos 1999) .state .table)
+demanded-places d log = d .places-appear scanText log lengthLeft (pos 2) (pos 1000) (pos 1999) leftRecords leftRest
 
 -- what was written reads back, is written by the list that is made from it, and opens again
-pub demanded-back : Demand2 → CouldWrite scanText leftRecords → Each (ReadsBack (parse scanText .catalogue)) leftRecords
-demanded-back d = d .reads-back scanText leftRecords
+pub demanded-back : Demand2 → (r : Record) (older : List Record) → CouldWrite scanText (r ∷ older) → (at : ℕ) (more : List ℕ)
+    → readFrame (parse scanText .catalogue) at (frame (parse scanText .catalogue) r ++ more) ≡ whole (at + length (frame (parse scanText .catalogue) r)) r
+demanded-back d r older w = d .reads-back scanText (r ∷ older) w .0
 
 pub demanded-steps : Demand2 → CouldWrite scanText leftRecords
     → take (logEnd (writtenBy scanText leftRecords .state)) (writtenBy scanText leftRecords .log) ≡ framesOf (parse scanText .catalogue) leftRecords
@@ -142,11 +143,10 @@ pub demanded-refused : Demand1 → (c : Call) (s : Server) → (answerOf c s .nu
 demanded-refused d = d .unchanged
 
 -- refusal 8, whatever comes before
-module _ (a : Admitted) (log words out : List ℕ) where
-  pub demanded-lengths : (xs : List Next) → Admits (afterEach xs (openedWith scanText log 0 (pos 1) (pos 1000) (pos 1999) words out))
-  demanded-lengths = a .another-length scanText log 0 (pos 1) (pos 1000) (pos 1999) words out
+pub demanded-lengths : Admitted → (log words out : List ℕ) (xs : List Next) → Admits (afterEach xs (openedWith scanText log 0 (pos 1) (pos 1000) (pos 1999) words out))
+demanded-lengths a log words out = a .another-length scanText log 0 (pos 1) (pos 1000) (pos 1999) words out
 
-  pub demanded-own : openReply (opening scanText log 0 (pos 1) (pos 1000) (pos 1999) .answer) .number ≡ 0 → (calls : List Call) (c : Call)
-      → answerOf c (afterAll calls (openedWith scanText log 0 (pos 1) (pos 1000) (pos 1999) words out)) .number ≡ 8
-      → ⊥
-  demanded-own = a .own-length scanText log 0 (pos 1) (pos 1000) (pos 1999) words out
+pub demanded-own : Admitted → (log words out : List ℕ) → openReply (opening scanText log 0 (pos 1) (pos 1000) (pos 1999) .answer) .number ≡ 0 → (calls : List Call) (c : Call)
+    → answerOf c (afterAll calls (openedWith scanText log 0 (pos 1) (pos 1000) (pos 1999) words out)) .number ≡ 8
+    → ⊥
+demanded-own a log words out = a .own-length scanText log 0 (pos 1) (pos 1000) (pos 1999) words out
