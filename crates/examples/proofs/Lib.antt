@@ -2,3 +2,4 @@
 pub mod Lines
 pub mod Themes
 pub mod Successions
+pub mod Bytes

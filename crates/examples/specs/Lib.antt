@@ -8,5 +8,7 @@ pub mod ClockLines
 pub mod SetLines
 pub mod PidLines
 pub mod PartitionLines
+pub mod LimitLines
 pub mod Themes
 pub mod SuccessionLines
+pub mod BytesLines

@@ -7,9 +7,10 @@ use Rattle.examples.specs.ClockLines.{clockLines, clockHeld}
 use Rattle.examples.specs.SetLines.{setLines, setHeld}
 use Rattle.examples.specs.PidLines.{pidLines}
 use Rattle.examples.specs.PartitionLines.{markerPlaces, entryLines}
+use Rattle.examples.specs.LimitLines.{catalogueTexts, lastPosition, restLengths, lastPlaces}
 
 pub data Theme : Type 0 where
-  epochs clock sets pids markers entries : Theme
+  epochs clock sets pids markers entries catalogues lastPositions rests lastPlace : Theme
 
 abbrev pub linesOf : Theme → List Line
 linesOf epochs = epochLines
@@ -18,6 +19,10 @@ linesOf sets = setLines
 linesOf pids = pidLines
 linesOf markers = markerPlaces
 linesOf entries = entryLines
+linesOf catalogues = catalogueTexts
+linesOf lastPositions = lastPosition
+linesOf rests = restLengths
+linesOf lastPlace = lastPlaces
 
 abbrev pub heldLines : List HeldLine
 heldLines = epochHeld ++ clockHeld ++ setHeld

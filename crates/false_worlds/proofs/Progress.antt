@@ -40,7 +40,8 @@ use Rattle.false_worlds.proofs.Differ.{differ, fails}
 pub no-order-given : (x : NoOrder) → OrdersGiven (withoutOrder x .phase) (withoutOrder x) → ⊥
 unfolding ones trailingZeros same firstWhere countWhere find findLast filter placeOf ordered orderPlace order recordsOf flushedOf untilZero members nameByte nameRun isLine lineAt isNew catalogueLines parse
 no-order-given forgotten = λ (here, rest). here 3 refl
-no-order-given takenForUnflushed = λ (here, rest). here 3 refl
+-- positions outside the catalogue may be up too
+no-order-given takenForUnflushed = λ (here, rest). here 7 refl
 no-order-given takenForAcknowledged = λ (here, rest). here 3 refl
 no-order-given higherPlace = λ (here, rest). fails (here 3 refl)
 

@@ -13,9 +13,10 @@ use Rattle.table.specs.Table.{reserved}
 use Rattle.coordinator.specs.Coordinator.{admits}
 use Rattle.partition.specs.Partition.{openCount, oldest, admits as partitionAdmits}
 use Rattle.partition.specs.Read.{nextMarker, committed, copy, readTests, readAnswer, readOut}
+use Rattle.server.specs.Admitted.{Admits}
 use Rattle.runs.specs.History.{collect, collectWithBefore}
 use Rattle.runs.specs.InEveryRun.{AdmitsExactly, ReadsCommitted}
-use Rattle.false_worlds.specs.Slices.{WrongSlice, otherLog, ownLog, otherWords, ownWords, wrongSlice, WrongRead, madeUpMarker, otherMarker, missedMarker, unsettled, madeUpCount, madeUpPayload, wrongRead}
+use Rattle.false_worlds.specs.Slices.{WrongSlice, otherLog, ownLog, otherWords, ownWords, wrongSlice, SpentServer, spentLog, spentWords, spentServer, WrongRead, madeUpMarker, otherMarker, missedMarker, unsettled, madeUpCount, madeUpPayload, laterPayload, wrongRead}
 use Rattle.false_worlds.proofs.Differ.{apart, differ, differ-lists, fails, passes}
 
 pub not-admitted-exactly : (x : WrongSlice) → AdmitsExactly (wrongSlice x) → ⊥
@@ -24,6 +25,11 @@ not-admitted-exactly otherLog = λ k. passes (k .log 5)
 not-admitted-exactly ownLog = λ k. fails (k .log 4)
 not-admitted-exactly otherWords = λ k. let (here, rest) = k .words in passes (here 5)
 not-admitted-exactly ownWords = λ k. let (here, rest) = k .words in fails (here 4)
+
+pub not-admitted : (x : SpentServer) → Admits (spentServer x) → ⊥
+unfolding sumOf countWhere reserved admits openCount partitionAdmits
+not-admitted spentLog = λ k. fails (k .of-log 4)
+not-admitted spentWords = λ k. fails (k .of-words 4)
 
 pub not-read-committed : (x : WrongRead) → ReadsCommitted (wrongRead x) → ⊥
 unfolding findLast filter collect collectWithBefore oldest nextMarker committed copy readTests readAnswer readOut firstRefusal countWhere openCount partitionAdmits overwrite same
@@ -37,3 +43,5 @@ not-read-committed madeUpCount = λ k.
     (here 0 (leb-true 0 2 refl) (0 ∷ []) .answers)
 not-read-committed madeUpPayload = λ k.
     let (here, rest) = k .reads in differ-lists (501 ∷ []) (502 ∷ []) refl refl (here 0 (leb-true 0 2 refl) (0 ∷ []) .copies)
+not-read-committed laterPayload = λ k.
+    let (here, rest) = k .reads in differ-lists (502 ∷ []) (503 ∷ []) refl refl (here 1 (leb-true 1 3 refl) (0 ∷ []) .copies)

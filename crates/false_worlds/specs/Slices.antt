@@ -5,7 +5,9 @@ use mathlib.Core.List.{List, [], _∷_}
 use lib.ListN.{replicate}
 use Rattle.record.specs.declared.Status.the-variants.{Begin}
 use Rattle.coordinator.specs.Open.{blankState}
+use Rattle.partition.specs.Partition.{openPartition}
 use Rattle.partition.specs.declared.Producer.{Producer}
+use Rattle.server.specs.Calls.{Server}
 use Rattle.runs.specs.History.{History, markerWritten, entryWritten}
 use Rattle.runs.specs.World.{World, up, nothing}
 use Rattle.false_worlds.specs.Histories.{begun, order7, entry7, state, rowIn, leaderOf, worldOf}
@@ -27,6 +29,22 @@ wrongSlice otherWords =
     worldOf [] (up blankState) (record { partition = record { room = 5; end = 0; producers = []; coordinator = 0 }; words = replicate 4 0 } ∷ []) nothing []
 wrongSlice ownWords = worldOf [] (up blankState) (leaderOf (replicate 4 0) 1 (opened ∷ []) 0 ∷ []) nothing []
 
+-- servers that refuse the length that they were opened with, because the reserve is spent
+pub data SpentServer : Type 0 where
+  spentLog spentWords : SpentServer
+
+abbrev pub spentServer : SpentServer → Server
+spentServer spentLog =
+    record { coordinator = state (rowIn Begin 1 0 ∷ []) 0 0 4; log = replicate 4 0; partition = openPartition 0; words = []; out = [] }
+spentServer spentWords =
+    record {
+      coordinator = blankState;
+      log = [];
+      partition = record { room = 4; end = 1; producers = opened ∷ []; coordinator = 0 };
+      words = replicate 4 0;
+      out = [];
+    }
+
 pub data WrongRead : Type 0 where
   -- Read finds a COMMIT that was not written, another verdict, or no marker where one was
   madeUpMarker otherMarker missedMarker : WrongRead
@@ -34,6 +52,8 @@ pub data WrongRead : Type 0 where
   unsettled : WrongRead
   -- a made-up count, and a made-up payload
   madeUpCount madeUpPayload : WrongRead
+  -- a made-up payload of the second entry, read from there
+  laterPayload : WrongRead
 
 -- partition 0 with these entries and no open transaction
 abbrev pub readOf : List ℕ → ℕ → History → World
@@ -53,3 +73,6 @@ wrongRead missedMarker = readOf entryWords 1 (markerWritten (order7 4 1000 0 0 0
 wrongRead unsettled = readOf entryWords 1 (entryWritten (entry7 0 0 501 0) ∷ begun)
 wrongRead madeUpCount = readOf committedWords 2 begun
 wrongRead madeUpPayload = readOf committedWords 2 (markerWritten (order7 4 1000 0 0 0) ∷ entryWritten (entry7 0 0 502 0) ∷ begun)
+wrongRead laterPayload =
+    readOf (1000 ∷ 0 ∷ 0 ∷ 501 ∷ 1000 ∷ 0 ∷ 1 ∷ 502 ∷ 1000 ∷ 1 ∷ 1 ∷ 0 ∷ []) 3
+    (markerWritten (order7 4 1000 0 0 0) ∷ entryWritten (entry7 0 1 503 1) ∷ entryWritten (entry7 0 0 501 0) ∷ begun)

@@ -1,16 +1,23 @@
 -- What the demands, taken as premises, say of the example: a demand whose statement is emptied, or has a premise that the example does not meet, fails here.
-use Prim.Native.Nat.{ℕ}
-use mathlib.Core.List.{List, [], _∷_}
+use Prim.Native.Nat.{ℕ, _+_}
+use mathlib.Core.Bool.{true}
+use mathlib.Core.List.{List, [], _∷_, _++_}
 use lib.IntN.{pos}
-use lib.ListN.{take}
+use lib.ListN.{length, take}
 use Rattle.coordinator.specs.declared.Coordinator.{Coordinator}
-use Rattle.writable_logs.specs.Demand2.{Demand2, InOrder, Openable}
-use Rattle.writable_logs.specs.Writer.{openingReply}
-use Rattle.server.specs.Lines.{scanText}
+use Rattle.writable_logs.specs.Demand2.{Demand2, InOrder, Openable, FirstBad, TableSays, writtenBy, OpensAgain}
+use Rattle.writable_logs.specs.RecordsSay.{PlacesByAppearance}
+use Rattle.writable_logs.specs.Writer.{openingReply, CouldWrite, AcceptedOpening, writes, writerFrom}
+use Rattle.server.specs.Lines.{scanText, afterAll}
+use Rattle.server.specs.Calls.{Server, Call, call, orderCall, answerOf, afterCall}
+use Rattle.server.specs.Demand1.{Demand1}
+use Rattle.server.specs.Admitted.{Admitted, Admits, Next, afterEach, openedWith}
+use Rattle.coordinator.specs.Calls.{flushCall}
+use Rattle.coordinator.specs.Coordinator.{logEnd}
 use Rattle.runs.specs.World.{Accepted, start, up, Item, cut}
 use Rattle.runs.specs.Completing.{Completing, carryEach, ordersLeft, AllCompleted}
 use Rattle.runs.specs.Demand3.{Demand3, Promised}
-use Rattle.runs.specs.InEveryRun.{InEveryRun, AdmitsExactly, ReadsCommitted}
+use Rattle.runs.specs.InEveryRun.{InEveryRun, AdmitsExactly, ReadsCommitted, PidsOnce}
 use mathlib.Core.Path.{_≡_, refl}
 use lib.Count.{ones, trailingZeros}
 use Rattle.numbers.specs.Bytes.{overwrite, same}
@@ -21,17 +28,19 @@ use Rattle.catalogue.specs.Catalogue.{nameByte, nameRun, isLine, lineAt, isNew,
 use Rattle.record.specs.Record.{nameBytes, nameFits, validName, joinedFits, startFits, fieldsFit, wellFormed}
 use Rattle.record.specs.Frame.{key, partitionBytes, topicEntry, topicBytes, topicsBelow, countBelow, topics, value, frame}
 use Rattle.record.specs.Topics.{withPartition, partitionsBelow, partitionsOf, partitionsAt, nameStands, topicAt, past, walk}
-use Rattle.record.specs.Reading.{candidate, judged, readFrame}
+use Rattle.record.specs.Reading.{candidate, judged, readFrame, whole}
+use Rattle.record.specs.declared.Record.{Record}
 use Rattle.succession.specs.Moves.{mayFollowStatus}
 use Rattle.succession.specs.Succession.{first, initializes, begins, widens, preparesCommit, preparesAbort, completes, keeps, follows}
 use Rattle.search.specs.Search.{firstWhere, countWhere, sumOf, find, findLast, filter}
-use Rattle.answers.specs.Refusals.{firstRefusal}
+use Rattle.answers.specs.Answers.{openReply}
+use Rattle.answers.specs.Refusals.{firstRefusal, among}
 use Rattle.table.specs.Next.{succeeds, mayCome}
 use Rattle.log_reader.specs.Read.{readTests}
 use Rattle.log_reader.specs.Scan.{scan}
 use Rattle.table.specs.Table.{placeOf, lowestFree, idCount, reserved, apply}
 use Rattle.coordinator.specs.Coordinator.{admits, notHeld, logFull, appended, acknowledged}
-use Rattle.coordinator.specs.Open.{takeOverTests, openTests, opening}
+use Rattle.coordinator.specs.Open.{takeOverTests, openTests, opening, takenOver}
 use Rattle.coordinator.specs.Init.{initRow, initRowTests, initTests, initAccepted, init}
 use Rattle.coordinator.specs.Add.{allJoined, addRow, addRowTests, addTests, addAction, add}
 use Rattle.coordinator.specs.Tick.{overdue, overduePlace, tickTests, tickAccepted, tick}
@@ -44,10 +53,10 @@ use Rattle.partition.specs.Marker.{markerTests, closed, markerAction, marker}
 use Rattle.partition.specs.Read.{nextMarker, committed, copy, readTests as readOffsetTests, readAnswer, readOut}
 use Rattle.partition.specs.Append.{lastSequence, nextSequence, produced, partitionFull}
 use Rattle.server.specs.Produce.{produceRowTests, produceTests, produce}
-use Rattle.log_reader.specs.Records.{framesOf}
+use Rattle.log_reader.specs.Records.{framesOf, tableOf}
 use Rattle.runs.specs.History.{collect, collectWithBefore, endingBy, recordsOf, flushedOf, wordsOf}
 use Rattle.runs.specs.World.{openLeaders, run, recordsRead}
-use Rattle.run_examples.specs.Runs.{lengthLeft, opened, shared, straight, afterCut, afterShared, openedLater, leftRecords, leftRest}
+use Rattle.run_examples.specs.Runs.{lengthLeft, opened, shared, straight, afterCut, afterShared, openedLater, writerItems, leftRecords, leftRest}
 use Rattle.run_examples.specs.Examples.{cutRunItems}
 
 -- the first openings are accepted
@@ -81,6 +90,9 @@ demanded-admits r = r .admits-exactly opened opened-accepted shared
 pub demanded-reads : InEveryRun → ReadsCommitted afterShared
 demanded-reads r = r .reads-committed opened opened-accepted shared
 
+pub demanded-pids : InEveryRun → PidsOnce afterShared
+demanded-pids r = r .pids-once opened opened-accepted shared
+
 -- demand 2: what the cut left is opened, and what was not opened could not have been written
 module _ (d : Demand2) (log : List ℕ) (i : InOrder scanText log lengthLeft (pos 2) (pos 1000) (pos 1999)) where
   pub demanded-opened : Openable scanText (take lengthLeft log) leftRecords leftRest → openingReply scanText log lengthLeft (pos 2) (pos 1000) (pos 1999) .number ≡ 0
@@ -88,3 +100,53 @@ module _ (d : Demand2) (log : List ℕ) (i : InOrder scanText log lengthLeft (po
 
   pub demanded-bad : (openingReply scanText log lengthLeft (pos 2) (pos 1000) (pos 1999) .number ≡ 0 → ⊥) → openingReply scanText log lengthLeft (pos 2) (pos 1000) (pos 1999) .number ≡ 6
   demanded-bad f = d .else-bad scanText log lengthLeft (pos 2) (pos 1000) (pos 1999) i f
+
+  pub demanded-written : openingReply scanText log lengthLeft (pos 2) (pos 1000) (pos 1999) .number ≡ 0 → (records : List Record) × (rest : List ℕ) × Openable scanText (take lengthLeft log) records rest
+  demanded-written e = d .opened-iff scanText log lengthLeft (pos 2) (pos 1000) (pos 1999) i .0 e
+
+-- the offset of a bad frame, the opened table and its places
+pub demanded-offset : Demand2 → (log : List ℕ) (offset : ℕ) → openingReply scanText log lengthLeft (pos 2) (pos 1000) (pos 1999) ≡ record { number = 6; results = pos offset ∷ [] }
+    → FirstBad scanText (take lengthLeft log) offset
+demanded-offset d log offset = d .bad-offset scanText log lengthLeft offset (pos 2) (pos 1000) (pos 1999)
+
+pub demanded-table : Demand2 → (log : List ℕ) → openingReply scanText log lengthLeft (pos 2) (pos 1000) (pos 1999) .number ≡ 0
+    → Openable scanText (take lengthLeft log) leftRecords leftRest
+    → (opening scanText log lengthLeft (pos 2) (pos 1000) (pos 1999) .state ≡ takenOver (parse scanText .catalogue) (tableOf (parse scanText .catalogue) leftRecords) (length log) (pos 2) (pos 1000) (pos 1999))
+    × TableSays (parse scanText .catalogue) leftRecords (opening scanText log lengthLeft (pos 2) (pos 1000) (pos 1999) .state .table)
+demanded-table d log = d .table-says scanText log lengthLeft (pos 2) (pos 1000) (pos 1999) leftRecords leftRest
+
+pub demanded-places : Demand2 → (log : List ℕ) → openingReply scanText log lengthLeft (pos 2) (pos 1000) (pos 1999) .number ≡ 0
+    → Openable scanText (take lengthLeft log) leftRecords leftRest
+    → PlacesByAppearance leftRecords (opening scanText log lengthLeft (pos 2) (pos 1000) (pos 1999) .state .table)
+demanded-places d log = d .places-appear scanText log lengthLeft (pos 2) (pos 1000) (pos 1999) leftRecords leftRest
+
+-- what was written reads back, is written by the list that is made from it, and opens again
+pub demanded-back : Demand2 → (r : Record) (older : List Record) → CouldWrite scanText (r ∷ older) → (at : ℕ) (more : List ℕ)
+    → readFrame (parse scanText .catalogue) at (frame (parse scanText .catalogue) r ++ more) ≡ whole (at + length (frame (parse scanText .catalogue) r)) r
+demanded-back d r older w = d .reads-back scanText (r ∷ older) w .0
+
+pub demanded-steps : Demand2 → CouldWrite scanText leftRecords
+    → take (logEnd (writtenBy scanText leftRecords .state)) (writtenBy scanText leftRecords .log) ≡ framesOf (parse scanText .catalogue) leftRecords
+demanded-steps d = d .by-steps scanText leftRecords
+
+pub demanded-again : Demand2 → (n : ℕ) (o : AcceptedOpening scanText n) → OpensAgain scanText (writes scanText writerItems (writerFrom scanText n o))
+demanded-again d n o = d .opens-again scanText n o writerItems
+
+-- demand 1: Order refuses nothing and Flush only with 7; a refusal leaves all as it was
+pub demanded-order : Demand1 → (set : ℕ) (s : Server) → among (answerOf (orderCall set) s .number) (0 ∷ []) ≡ true
+demanded-order d set s = d .numbered (orderCall set) s
+
+pub demanded-flush : Demand1 → (n : ℕ) (s : Server) → among (answerOf (call (flushCall n)) s .number) (0 ∷ 7 ∷ []) ≡ true
+demanded-flush d n s = d .numbered (call (flushCall n)) s
+
+pub demanded-refused : Demand1 → (c : Call) (s : Server) → (answerOf c s .number ≡ 0 → ⊥) → afterCall c s ≡ s
+demanded-refused d = d .unchanged
+
+-- refusal 8, whatever comes before
+pub demanded-lengths : Admitted → (log words out : List ℕ) (xs : List Next) → Admits (afterEach xs (openedWith scanText log 0 (pos 1) (pos 1000) (pos 1999) words out))
+demanded-lengths a log words out = a .another-length scanText log 0 (pos 1) (pos 1000) (pos 1999) words out
+
+pub demanded-own : Admitted → (log words out : List ℕ) → openReply (opening scanText log 0 (pos 1) (pos 1000) (pos 1999) .answer) .number ≡ 0 → (calls : List Call) (c : Call)
+    → answerOf c (afterAll calls (openedWith scanText log 0 (pos 1) (pos 1000) (pos 1999) words out)) .number ≡ 8
+    → ⊥
+demanded-own a log words out = a .own-length scanText log 0 (pos 1) (pos 1000) (pos 1999) words out

@@ -4,3 +4,4 @@ pub mod Sound
 pub mod Promised
 pub mod Values
 pub mod Demanded
+pub mod Lists

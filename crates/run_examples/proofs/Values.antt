@@ -41,11 +41,12 @@ use Rattle.runs.specs.World.{openLeaders, run, recordsRead}
 use Rattle.runs.specs.History.{Logged, pendingPrepares, isCompleted, carriedFor, listed}
 use Rattle.runs.specs.World.{World, Item}
 use Rattle.search.specs.Search.{Each}
+use Rattle.runs.specs.Completing.{carryEach}
 use Rattle.runs.specs.Demand3.{CompletesInTime}
 use mathlib.Core.Bool.{true}
-use Rattle.run_examples.specs.Runs.{carry, prepared, completeLost}
+use Rattle.run_examples.specs.Runs.{carry, prepared, completeLost, afterShared}
 use Rattle.run_examples.specs.Examples.{after}
-use Rattle.run_examples.specs.Values.{Moment, unflushedPrepare, shortFlush, flushedPrepare, lostPrepare, secondTransaction, ordersUnderWay, ordersOfBoth, bothCompleted, completeCut, completeLostThen, carriedAgain, itemsTo, factsOf, expectedFacts, PremiseMet}
+use Rattle.run_examples.specs.Values.{Moment, unflushedPrepare, shortFlush, flushedPrepare, lostPrepare, secondTransaction, ordersUnderWay, ordersOfBoth, bothCompleted, completeCut, completeLostThen, carriedAgain, itemsTo, leftAt, expectedLeft, factsOf, expectedFacts, PremiseMet}
 
 pub facts-hold : (m : Moment) → factsOf (after (itemsTo m) .history) ≡ expectedFacts m
 unfolding openLeaders run collect collectWithBefore endingBy recordsOf framesOf flushedOf wordsOf recordsRead find findLast filter ones overwrite same bigEndian integerBytes untilZero members nameByte nameRun isLine lineAt isNew catalogueLines parse nameBytes key partitionBytes topicEntry topicBytes topicsBelow countBelow topics value frame firstWhere countWhere sumOf firstRefusal nameFits scan placeOf lowestFree idCount reserved apply admits notHeld logFull appended readTests takeOverTests openTests opening initRow initTests initRowTests initAccepted init allJoined addRow addTests addRowTests addAction add overdue overduePlace tickTests tickAccepted tick flushTests flush openPartition openCount partitionAdmits lastSequence nextSequence produced partitionFull produceTests produceRowTests produce readFrame judged candidate wellFormed validName fieldsFit joinedFits startFits integerOf numberFrom walk past topicAt nameStands partitionsAt partitionsOf partitionsBelow withPartition mayCome succeeds first follows keeps mayFollowStatus initializes begins widens preparesCommit preparesAbort completes ackTests ackRowTests ackAction ack acknowledged endFits endTests endRowTests endAction end ordered orderPlace order markerTests closed markerAction marker oldest nextMarker committed copy readOffsetTests readAnswer readOut trailingZeros
@@ -60,6 +61,30 @@ facts-hold bothCompleted = refl
 facts-hold completeCut = refl
 facts-hold completeLostThen = refl
 facts-hold carriedAgain = refl
+
+pub left-hold : (m : Moment) → leftAt (after (itemsTo m) .phase) ≡ expectedLeft m
+unfolding openLeaders run collect collectWithBefore endingBy recordsOf framesOf flushedOf wordsOf recordsRead find findLast filter ones overwrite same bigEndian integerBytes untilZero members nameByte nameRun isLine lineAt isNew catalogueLines parse nameBytes key partitionBytes topicEntry topicBytes topicsBelow countBelow topics value frame firstWhere countWhere sumOf firstRefusal nameFits scan placeOf lowestFree idCount reserved apply admits notHeld logFull appended readTests takeOverTests openTests opening initRow initTests initRowTests initAccepted init allJoined addRow addTests addRowTests addAction add overdue overduePlace tickTests tickAccepted tick flushTests flush openPartition openCount partitionAdmits lastSequence nextSequence produced partitionFull produceTests produceRowTests produce readFrame judged candidate wellFormed validName fieldsFit joinedFits startFits integerOf numberFrom walk past topicAt nameStands partitionsAt partitionsOf partitionsBelow withPartition mayCome succeeds first follows keeps mayFollowStatus initializes begins widens preparesCommit preparesAbort completes ackTests ackRowTests ackAction ack acknowledged endFits endTests endRowTests endAction end ordered orderPlace order markerTests closed markerAction marker oldest nextMarker committed copy readOffsetTests readAnswer readOut trailingZeros
+left-hold unflushedPrepare = refl
+left-hold shortFlush = refl
+left-hold flushedPrepare = refl
+left-hold lostPrepare = refl
+left-hold secondTransaction = refl
+left-hold ordersUnderWay = refl
+left-hold ordersOfBoth = refl
+left-hold bothCompleted = refl
+left-hold completeCut = refl
+left-hold completeLostThen = refl
+left-hold carriedAgain = refl
+
+-- one of two is acknowledged
+pub left-half : leftAt (afterShared .phase) ≡ 1
+unfolding openLeaders run collect collectWithBefore endingBy recordsOf framesOf flushedOf wordsOf recordsRead find findLast filter ones overwrite same bigEndian integerBytes untilZero members nameByte nameRun isLine lineAt isNew catalogueLines parse nameBytes key partitionBytes topicEntry topicBytes topicsBelow countBelow topics value frame firstWhere countWhere sumOf firstRefusal nameFits scan placeOf lowestFree idCount reserved apply admits notHeld logFull appended readTests takeOverTests openTests opening initRow initTests initRowTests initAccepted init allJoined addRow addTests addRowTests addAction add overdue overduePlace tickTests tickAccepted tick flushTests flush openPartition openCount partitionAdmits lastSequence nextSequence produced partitionFull produceTests produceRowTests produce readFrame judged candidate wellFormed validName fieldsFit joinedFits startFits integerOf numberFrom walk past topicAt nameStands partitionsAt partitionsOf partitionsBelow withPartition mayCome succeeds first follows keeps mayFollowStatus initializes begins widens preparesCommit preparesAbort completes ackTests ackRowTests ackAction ack acknowledged endFits endTests endRowTests endAction end ordered orderPlace order markerTests closed markerAction marker oldest nextMarker committed copy readOffsetTests readAnswer readOut trailingZeros
+left-half = refl
+
+-- the list that carries two orders, each by the number that its event has
+pub carry-each-holds : carryEach 2 (after prepared) ≡ carry 9 ++ carry 12
+unfolding carryEach openLeaders run collect collectWithBefore endingBy recordsOf framesOf flushedOf wordsOf recordsRead find findLast filter ones overwrite same bigEndian integerBytes untilZero members nameByte nameRun isLine lineAt isNew catalogueLines parse nameBytes key partitionBytes topicEntry topicBytes topicsBelow countBelow topics value frame firstWhere countWhere sumOf firstRefusal nameFits scan placeOf lowestFree idCount reserved apply admits notHeld logFull appended readTests takeOverTests openTests opening initRow initTests initRowTests initAccepted init allJoined addRow addTests addRowTests addAction add overdue overduePlace tickTests tickAccepted tick flushTests flush openPartition openCount partitionAdmits lastSequence nextSequence produced partitionFull produceTests produceRowTests produce readFrame judged candidate wellFormed validName fieldsFit joinedFits startFits integerOf numberFrom walk past topicAt nameStands partitionsAt partitionsOf partitionsBelow withPartition mayCome succeeds first follows keeps mayFollowStatus initializes begins widens preparesCommit preparesAbort completes ackTests ackRowTests ackAction ack acknowledged endFits endTests endRowTests endAction end ordered orderPlace order markerTests closed markerAction marker oldest nextMarker committed copy readOffsetTests readAnswer readOut trailingZeros
+carry-each-holds = refl
 
 -- a commit of two partitions, from the moment when its prepare is flushed
 pub premise-met : PremiseMet (after prepared) (carry 9 ++ carry 12) 7

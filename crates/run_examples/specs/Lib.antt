@@ -3,3 +3,4 @@ pub mod Checks
 pub mod Runs
 pub mod Examples
 pub mod Values
+pub mod Lists

@@ -11,7 +11,8 @@ use Rattle.search.specs.Search.{filter, Each}
 use Rattle.server.specs.Lines.{rig7}
 use Rattle.coordinator.specs.Calls.{initCall, endCall}
 use Rattle.runs.specs.History.{Order, Produced, givenIn, markersIn, collect, WithBefore, numberOf, History, Logged, recordsOf, isFlushed, nextOf, isPrepare, flushedPrepares, listed, isCompleted, completedPrepares, pendingPrepares, transaction, markerOver, carriedFor, markersFor}
-use Rattle.runs.specs.World.{World, catalogueOf, own, Item, call, callOrder, callProduce, deliver, acknowledge, cut, run}
+use Rattle.runs.specs.Completing.{ordersLeft}
+use Rattle.runs.specs.World.{World, catalogueOf, own, Item, call, callOrder, callProduce, deliver, acknowledge, cut, run, Phase, up, down}
 use Rattle.runs.specs.Demand3.{Undisturbed}
 use Rattle.run_examples.specs.Runs.{join, ending, flushing, carry, reopening, beginning, prepared, completeLost, completeLostCarried, twoPrepared, twoCarried}
 
@@ -130,6 +131,24 @@ itemsTo bothCompleted = twoCarried
 itemsTo completeCut = cutOff
 itemsTo completeLostThen = completeLost
 itemsTo carriedAgain = completeLostCarried
+
+-- the orders that are left at each of these moments: one for each partition of a flushed prepare that is not acknowledged
+abbrev pub leftAt : Phase → ℕ
+leftAt (up s) = ordersLeft s
+leftAt (down n epoch) = 0
+
+abbrev pub expectedLeft : Moment → ℕ
+expectedLeft unflushedPrepare = 0
+expectedLeft shortFlush = 0
+expectedLeft flushedPrepare = 2
+expectedLeft lostPrepare = 2
+expectedLeft secondTransaction = 1
+expectedLeft ordersUnderWay = 3
+expectedLeft ordersOfBoth = 2
+expectedLeft bothCompleted = 0
+expectedLeft completeCut = 0
+expectedLeft completeLostThen = 2
+expectedLeft carriedAgain = 0
 
 -- of events 0 opening, 1 EMPTY, 3 BEGIN, 5 and 6 entries, 7 prepare: it is appended and not flushed
 abbrev pub factsUnflushed : Facts
