@@ -32,6 +32,6 @@ unfolding run filter find findLast recordsOf flushedOf same
 not-promised = λ p. let (here, rest) = p .kept in differ 3 4 refl refl (here .next .status)
 
 -- the same of one that was completed by then: not if another pid has completed it
-pub completed-not-promised : Promised (told (lostIn completedByPid)) [] → ⊥
+pub completed-not-promised : Promised (withHistory (lostIn completedByPid)) [] → ⊥
 unfolding run filter find findLast recordsOf flushedOf same
 completed-not-promised = λ p. let (here, rest) = p .kept in differ-signed (pos 1001) (pos 1000) refl refl (here .next .pid)
