@@ -1,5 +1,6 @@
 -- In none of these worlds is there progress; what disturbs a carrying, and what does not.
 use mathlib.Core.Path.{refl}
+use mathlib.Core.List.{[], _∷_}
 use lib.IntN.{pos}
 use borrow.Author.Tests.{leb-true}
 use lib.Count.{trailingZeros}
@@ -29,8 +30,8 @@ use Rattle.coordinator.specs.Order.{ordered, orderPlace, order}
 use Rattle.coordinator.specs.Ack.{ackRowTests, ackTests, ackAction, ack}
 use Rattle.partition.specs.Partition.{openCount, admits as partitionAdmits}
 use Rattle.partition.specs.Marker.{markerTests, closed, markerAction, marker}
-use Rattle.runs.specs.History.{recordsOf, flushedOf, collect}
-use Rattle.runs.specs.World.{run}
+use Rattle.runs.specs.History.{endingBy, recordsOf, flushedOf, collect}
+use Rattle.runs.specs.World.{cut, run}
 use Rattle.runs.specs.Completing.{AllCompleted}
 use Rattle.runs.specs.Demand3.{OrdersGiven, CarryingAccepted, Undisturbed, CompletesInTime, Restarts, HoldsAt, Promised}
 use Rattle.false_worlds.specs.Histories.{committing, withHistory}
@@ -99,3 +100,13 @@ pub not-all-completed : (x : NotAll) → AllCompleted (withHistory committing) (
 unfolding same find findLast filter recordsOf flushedOf collect
 not-all-completed notCarried = λ k. differ 0 1 refl refl (k .carried)
 not-all-completed notCompleted = λ k. let (here, rest) = k .completed in fails here
+
+-- a promise is for the end of the list: not if a cut below what was flushed takes the prepare
+pub cut-not-promised : Promised (withoutOrder takenForUnflushed) (cut 120 ∷ []) → ⊥
+unfolding run find findLast filter recordsOf endingBy flushedOf same
+cut-not-promised = λ p. let (here, rest) = p .kept in here .stands
+
+-- nor if what that cut leaves is past the buffer
+pub end-not-promised : Promised (withoutOrder takenForUnflushed) (cut 120 ∷ []) → ⊥
+unfolding framesOf readFrame judged candidate wellFormed validName fieldsFit joinedFits startFits integerOf numberFrom walk past topicAt nameStands partitionsAt partitionsOf partitionsBelow withPartition mayCome succeeds first follows keeps mayFollowStatus initializes begins widens preparesCommit preparesAbort completes nameBytes nameFits scan placeOf lowestFree reserved apply readTests takeOverTests openTests opening firstRefusal firstWhere countWhere sumOf trailingZeros ones overwrite same bigEndian integerBytes untilZero members nameByte nameRun isLine lineAt isNew catalogueLines parse key partitionBytes topicEntry topicBytes topicsBelow countBelow topics value frame run
+end-not-promised = λ p. differ 7 0 refl refl (p .holds .restarts (pos 0) (pos 0) (pos 0) refl)

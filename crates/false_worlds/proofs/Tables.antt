@@ -37,7 +37,7 @@ use Rattle.writable_logs.specs.Writer.{CouldWrite}
 use Rattle.writable_logs.specs.Demand2.{Openable, InOrder, StartsWith, HoldsLatest, HoldsNoOther, ReadsBack, OpensAgain, TableSays}
 use Rattle.server.specs.Lines.{scanText, lab3}
 use Rattle.false_worlds.specs.Histories.{name7}
-use Rattle.false_worlds.specs.Tables.{scans, name3, empty7, begin7, bothRecords, Misplaced, swapped, fromTheEnd, placeTwice, placeLeftOut, misplaced, Misnumbered, pidGivenAgain, oldUpdate, tornEnd, misnumbered, begunRecords, NotLatest, firstRecord, otherLogEnd, takenAsAcknowledged, notHeld, notLatest, inventedName, Unreadable, timeoutZero, negativePid, startInEmpty, setInEmpty, noSetInBegin, partitionDropped, unreadable, NotOpenable, otherBytes, badRest, wholeRest, bytesOf, restOf, recordsIn, OutOfOrder, noCatalogue, lengthPast, negativeEpoch, negativeFirst, lastBelowFirst, outOfOrder, NotReopened, writtenBad, notFollowing, tooLittleRoom, otherSlice, ownSlice, notReopened, Saying, sayings}
+use Rattle.false_worlds.specs.Tables.{scans, name3, empty7, begin7, empty3, bothRecords, Misplaced, swapped, fromTheEnd, placeTwice, placeLeftOut, misplaced, Misnumbered, pidGivenAgain, oldUpdate, tornEnd, misnumbered, begunRecords, NotLatest, firstRecord, otherLogEnd, takenAsAcknowledged, notHeld, notLatest, olderForgotten, inventedName, Unreadable, timeoutZero, negativePid, startInEmpty, setInEmpty, noSetInBegin, partitionDropped, unreadable, NotOpenable, otherBytes, badRest, wholeRest, bytesOf, restOf, recordsIn, OutOfOrder, noCatalogue, lengthPast, negativeEpoch, negativeFirst, lastBelowFirst, outOfOrder, NotReopened, writtenBad, notFollowing, tooLittleRoom, otherSlice, ownSlice, notReopened, Saying, sayings}
 use Rattle.false_worlds.proofs.Differ.{differ, differ-lists, fails, passes, above}
 
 pub not-by-appearance : (x : Misplaced) → PlacesByAppearance bothRecords (misplaced x) → ⊥
@@ -60,6 +60,11 @@ not-its-latest firstRecord = λ k. fails (ap (λ (row : Row). isBegin (row .stat
 not-its-latest otherLogEnd = λ k. differ 119 120 refl refl (ap (λ (row : Row). row .end) (k [] (empty7 ∷ []) begin7 refl tt))
 not-its-latest takenAsAcknowledged = λ k. differ 1 0 refl refl (ap (λ (row : Row). row .acknowledged) (k [] (empty7 ∷ []) begin7 refl tt))
 not-its-latest notHeld = λ k. fails (ap (λ (row : Row). isBegin (row .status)) (k [] (empty7 ∷ []) begin7 refl tt))
+
+-- each name has its latest, not the newest of the log alone
+pub older-not-latest : HoldsLatest scans (empty3 ∷ begunRecords) olderForgotten → ⊥
+unfolding framesOf firstWhere placeOf ones overwrite same bigEndian integerBytes untilZero members nameByte nameRun isLine lineAt isNew catalogueLines parse key partitionBytes topicEntry topicBytes topicsBelow countBelow topics value frame
+older-not-latest = λ k. fails (ap (λ (row : Row). isBegin (row .status)) (k (empty3 ∷ []) (empty7 ∷ []) begin7 refl ((λ e. differ-lists name3 name7 refl refl e), tt)))
 
 pub holds-another : HoldsNoOther begunRecords inventedName → ⊥
 unfolding firstWhere placeOf same nameBytes nameFits

@@ -17,11 +17,11 @@ use Rattle.coordinator.specs.declared.OpenedLog.{OpenedLog}
 use Rattle.log_reader.specs.Records.{framesOf}
 use Rattle.server.specs.Lines.{scanText}
 use Rattle.runs.specs.History.{Order, Logged, collect, carriedIn, markersIn, flushedPrepares, pendingPrepares, completedPrepares, transaction}
-use Rattle.runs.specs.World.{World, start, leaderAt, own, Item, callOrder, deliver, cut, run}
-use Rattle.coordinator.specs.Calls.{Writer}
+use Rattle.runs.specs.World.{World, start, leaderAt, own, another, Item, call, callOrder, callProduce, callRead, deliver, cut, run}
+use Rattle.coordinator.specs.Calls.{Writer, tickCall}
 use Rattle.writable_logs.specs.Writer.{writes}
 use Rattle.run_examples.specs.Checks.{kept, completesInTime, forFlushedPrepare, underItsVerdict, holdsAt, readsFrom}
-use Rattle.run_examples.specs.Runs.{buffer, lengthLeft, opened, both, carry, reopening, prepared, straight, afterCut, afterShared, orderedEarly, flushedShort, flushedPast, restarted, restartedCarried, completeLost, completeLostCarried, widenedEarly, tickedLate, ticked, tickedCarried, someDown, allDown, sameEpoch, sameEpochCarried, twoPrepared, twoCarried, carriedLate, carriedTwice, acknowledgedOnly, openedLater, lentOthers, writerItems, leftRecords, leftRest}
+use Rattle.run_examples.specs.Runs.{buffer, lengthLeft, opened, both, carry, reopening, prepared, straight, afterCut, afterShared, orderedEarly, flushedShort, flushedPast, restarted, restartedCarried, completeLost, completeLostCarried, widenedEarly, tickedLate, ticked, tickedCarried, someDown, allDown, sameEpoch, sameEpochCarried, twoPrepared, twoCarried, carriedLate, carriedAfter, epochLowered, carriedTwice, acknowledgedOnly, openedLater, lentOthers, writerItems, leftRecords, leftRest}
 
 pub data Example : Type 0 where
   -- one of two acknowledgements is there
@@ -142,8 +142,14 @@ holds runsAsDescribed =
     && hasFigures (after completeLostCarried) 1 2 4 2
     && hasFigures (after widenedEarly) 1 1 1 1
     && hasFigures (after carriedLate) 0 0 0 0
+    && hasFigures (after (carriedAfter (call (another []) (tickCall (pos 130))))) 0 0 0 0
+    && hasFigures (after (carriedAfter (callRead own 0 0 []))) 0 0 0 0
+    && hasFigures (after (carriedAfter (callRead (another []) 0 0 []))) 0 0 0 0
+    && hasFigures (after (carriedAfter (callProduce (another []) 0 [] (pos 0) (pos 0) 0 (pos 0) 0))) 0 0 0 0
+    && hasFigures (after (carriedAfter (callOrder 0))) 0 0 0 0
     && hasFigures (after carriedTwice) 0 0 1 1
     && hasFigures (after acknowledgedOnly) 0 0 0 0
+    && hasFigures (after epochLowered) 0 0 0 0
     && hasFigures (run (carry 9) (after prepared)) 0 0 1 1
     && hasFigures laterEnd 1 0 2 0
     && hasFigures (after lentOthers) 0 0 0 1

@@ -202,6 +202,10 @@ twoCarried = twoPrepared ++ carry 14 ++ carry 17 ++ carry 21
 abbrev pub carriedLate : List Item
 carriedLate = prepared ++ (callOrder both ∷ flushing 195 ∷ deliver own 9 ∷ acknowledge own 9 ∷ [])
 
+-- the same where this item comes between
+abbrev pub carriedAfter : Item → List Item
+carriedAfter x = prepared ++ (callOrder both ∷ x ∷ deliver own 9 ∷ acknowledge own 9 ∷ [])
+
 -- an order that is given to its partition twice and acknowledged twice
 abbrev pub carriedTwice : List Item
 carriedTwice = prepared ++ (callOrder both ∷ deliver own 9 ∷ deliver own 9 ∷ acknowledge own 9 ∷ acknowledge own 9 ∷ [])
@@ -209,6 +213,10 @@ carriedTwice = prepared ++ (callOrder both ∷ deliver own 9 ∷ deliver own 9 �
 -- an acknowledgement without a marker
 abbrev pub acknowledgedOnly : List Item
 acknowledgedOnly = prepared ++ (callOrder both ∷ acknowledge own 9 ∷ [])
+
+-- "which never lowers the coordinator epoch": after an opening with a lower one the coordinator is still down, and no order is given
+abbrev pub epochLowered : List Item
+epochLowered = prepared ++ (cut 195 ∷ reopen (pos 0) (pos 1000) (pos 1999) ∷ []) ++ carry 11
 
 -- ---- other starts, and slices that meet 8
 
