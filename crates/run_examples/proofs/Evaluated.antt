@@ -38,7 +38,7 @@ use Rattle.runs.specs.History.{collect, collectWithBefore, endingBy, recordsOf,
 use Rattle.runs.specs.World.{openLeaders, run, recordsRead}
 use Rattle.writable_logs.specs.Writer.{writes}
 use Rattle.run_examples.specs.Checks.{ends}
-use Rattle.run_examples.specs.Examples.{Example, halfAcknowledged, whileCarrying, straightRun, orderBeforeFlush, orderBeforeWholeFlush, flushPastEnd, widenedNotFlushed, ordersAfterRestart, completesAfterRestart, completesAgain, timeoutPassed, tickAborts, partitionsDown, equalEpoch, twoPending, cutInsideFrame, cutRun, openedWithRecords, slicesThatMeet8, couldHaveWritten, readsCommitted, runsAsDescribed, holds}
+use Rattle.run_examples.specs.Examples.{Example, halfAcknowledged, whileCarrying, straightRun, orderBeforeFlush, orderBeforeWholeFlush, flushPastEnd, widenedNotFlushed, ordersAfterRestart, completesAfterRestart, completesAgain, timeoutPassed, tickAborts, partitionsDown, equalEpoch, twoPending, cutInsideFrame, cutRun, openedWithRecords, slicesThatMeet8, couldHaveWritten, writesWithAGap, readsCommitted, runsAsDescribed, holds}
 
 pub examples-hold : (e : Example) → holds e ≡ true
 unfolding openLeaders writes all allAt ends run collect collectWithBefore endingBy recordsOf framesOf flushedOf wordsOf recordsRead find findLast filter ones overwrite same bigEndian integerBytes untilZero members nameByte nameRun isLine lineAt isNew catalogueLines parse nameBytes key partitionBytes topicEntry topicBytes topicsBelow countBelow topics value frame firstWhere countWhere sumOf firstRefusal nameFits scan placeOf lowestFree idCount reserved apply admits notHeld logFull appended readTests takeOverTests openTests opening initRow initTests initRowTests initAccepted init allJoined addRow addTests addRowTests addAction add overdue overduePlace tickTests tickAccepted tick flushTests flush openPartition openCount partitionAdmits lastSequence nextSequence produced partitionFull produceTests produceRowTests produce readFrame judged candidate wellFormed validName fieldsFit joinedFits startFits integerOf numberFrom walk past topicAt nameStands partitionsAt partitionsOf partitionsBelow withPartition mayCome succeeds first follows keeps mayFollowStatus initializes begins widens preparesCommit preparesAbort completes ackTests ackRowTests ackAction ack acknowledged endFits endTests endRowTests endAction end ordered orderPlace order markerTests closed markerAction marker oldest nextMarker committed copy readOffsetTests readAnswer readOut trailingZeros
@@ -62,5 +62,6 @@ examples-hold cutRun = refl
 examples-hold openedWithRecords = refl
 examples-hold slicesThatMeet8 = refl
 examples-hold couldHaveWritten = refl
+examples-hold writesWithAGap = refl
 examples-hold readsCommitted = refl
 examples-hold runsAsDescribed = refl

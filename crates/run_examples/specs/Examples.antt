@@ -21,7 +21,7 @@ use Rattle.runs.specs.World.{World, start, leaderAt, own, another, Item, call, 
 use Rattle.coordinator.specs.Calls.{Writer, tickCall}
 use Rattle.writable_logs.specs.Writer.{writes}
 use Rattle.run_examples.specs.Checks.{kept, completesInTime, forFlushedPrepare, underItsVerdict, holdsAt, readsFrom}
-use Rattle.run_examples.specs.Runs.{buffer, lengthLeft, opened, both, carry, reopening, prepared, straight, afterCut, afterShared, orderedEarly, flushedShort, flushedPast, restarted, restartedCarried, completeLost, completeLostCarried, widenedEarly, tickedLate, ticked, tickedCarried, someDown, allDown, sameEpoch, sameEpochCarried, twoPrepared, twoCarried, carriedLate, carriedAfter, epochLowered, carriedTwice, acknowledgedOnly, openedLater, lentOthers, writerItems, leftRecords, leftRest}
+use Rattle.run_examples.specs.Runs.{buffer, lengthLeft, opened, both, carry, reopening, prepared, straight, afterCut, afterShared, orderedEarly, flushedShort, flushedPast, restarted, restartedCarried, completeLost, completeLostCarried, widenedEarly, tickedLate, ticked, tickedCarried, someDown, allDown, sameEpoch, sameEpochCarried, twoPrepared, twoCarried, carriedLate, carriedAfter, epochLowered, carriedTwice, acknowledgedOnly, openedLater, lentOthers, writerItems, gapItems, gapRecords, leftRecords, leftRest}
 
 pub data Example : Type 0 where
   -- one of two acknowledgements is there
@@ -58,6 +58,8 @@ pub data Example : Type 0 where
   slicesThatMeet8 : Example
   -- what a cut leaves could have been written, and its rest is torn
   couldHaveWritten : Example
+  -- a writer opens its log again, with another block
+  writesWithAGap : Example
   -- Read answers the payload that stands under COMMIT, also into a slice without room
   readsCommitted : Example
   -- the runs are as their descriptions say; "before the next call or cut, or never", and once
@@ -128,6 +130,9 @@ holds couldHaveWritten =
     && same (take (logEnd (writerEnd .state)) (writerEnd .log)) frames
     && same (take lengthLeft (afterShared .log)) (frames ++ leftRest)
     && isTornRest leftRest
+holds writesWithAGap =
+    let x = writes scanText gapItems (record { state = writerOpening .state; log = buffer }) in
+    same (take (logEnd (x .state)) (x .log)) (framesOf (parse scanText .catalogue) gapRecords)
 holds readsCommitted =
     let w = run straight afterShared in
     let l = leaderAt w 0 in

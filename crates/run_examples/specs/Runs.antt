@@ -1,14 +1,17 @@
 -- Example runs: a commit over two partitions that a restart splits, with a cut inside a frame; and, for each reading that tempts, a run in which it would do harm.
 use Prim.Native.Nat.{ℕ}
 use mathlib.Core.List.{List, [], _∷_, _++_, map}
-use lib.IntN.{pos}
+use lib.IntN.{pos, negsuc}
 use lib.ListN.{take, drop, replicate}
+use Rattle.numbers.specs.Padded.{padded}
+use Rattle.record.specs.Limits.{nameMax}
 use Rattle.record.specs.declared.Record.{Record}
+use Rattle.record.specs.declared.Status.the-variants.{Empty}
 use Rattle.server.specs.Lines.{rig7, scanText, lab3}
 use Rattle.runs.specs.History.{recordsOf, contents}
 use Rattle.coordinator.specs.Calls.{initCall, addCall, endCall, tickCall, flushCall}
 use Rattle.runs.specs.World.{World, FirstOpening, start, own, another, Item, call, callOrder, callProduce, callRead, deliver, acknowledge, cut, reopen, run}
-use Rattle.writable_logs.specs.Writer.{WriterItem, call as byWriter}
+use Rattle.writable_logs.specs.Writer.{WriterItem, call as byWriter, restart}
 
 -- a log buffer
 abbrev pub buffer : List ℕ
@@ -103,6 +106,33 @@ writerItems =
     flushCall 124 ∷
     endCall rig7 (pos 1000) (pos 0) 0 (pos 120) ∷
     [])
+
+-- two Inits, and between them an opening with another block: the pids have a gap
+abbrev pub gapItems : List WriterItem
+gapItems =
+    byWriter (initCall rig7 (pos 60000) (pos 100)) ∷
+    byWriter (flushCall 53) ∷
+    restart 53 (pos 2) (pos 1500) (pos 1500) ∷
+    byWriter (initCall lab3 (pos 60000) (pos 110)) ∷
+    []
+
+-- EMPTY of a name with a new pid
+abbrev pub emptyOf : List ℕ → ℕ → ℕ → Record
+emptyOf name pid updated =
+    record {
+      name = padded nameMax name;
+      pid = pos pid;
+      epoch = pos 0;
+      timeout = pos 60000;
+      status = Empty;
+      joined = 0;
+      updated = pos updated;
+      start = negsuc 0;
+    }
+
+-- the records that these leave, the newest first
+abbrev pub gapRecords : List Record
+gapRecords = emptyOf lab3 1500 110 ∷ emptyOf rig7 1000 100 ∷ []
 
 -- the records that that cut leaves whole, and the 25 bytes behind them
 abbrev pub leftRecords : List Record
