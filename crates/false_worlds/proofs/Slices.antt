@@ -26,10 +26,10 @@ not-admitted-exactly ownLog = λ k. fails (k .log 4)
 not-admitted-exactly otherWords = λ k. let (here, rest) = k .words in passes (here 5)
 not-admitted-exactly ownWords = λ k. let (here, rest) = k .words in fails (here 4)
 
-pub not-admitted : (x : SpentServer) → Admits (spentServer x) → ⊥
+pub spent-not-admitted : (x : SpentServer) → Admits (spentServer x) → ⊥
 unfolding sumOf countWhere reserved admits openCount partitionAdmits
-not-admitted spentLog = λ k. fails (k .of-log 4)
-not-admitted spentWords = λ k. fails (k .of-words 4)
+spent-not-admitted spentLog = λ k. fails (k .of-log 4)
+spent-not-admitted spentWords = λ k. fails (k .of-words 4)
 
 pub not-read-committed : (x : WrongRead) → ReadsCommitted (wrongRead x) → ⊥
 unfolding findLast filter collect collectWithBefore oldest nextMarker committed copy readTests readAnswer readOut firstRefusal countWhere openCount partitionAdmits overwrite same
