@@ -5,7 +5,7 @@ use mathlib.Core.List.{List, [], _∷_, _++_}
 use lib.IntN.{pos}
 use lib.ListN.{length, take}
 use Rattle.coordinator.specs.declared.Coordinator.{Coordinator}
-use Rattle.writable_logs.specs.Demand2.{Demand2, InOrder, Openable, FirstBad, TableSays, writtenBy, OpensAgain}
+use Rattle.writable_logs.specs.Demand2.{Demand2, InOrder, Openable, FirstBad, TableSays, ReadsBack, writtenBy, OpensAgain}
 use Rattle.writable_logs.specs.RecordsSay.{PlacesByAppearance}
 use Rattle.writable_logs.specs.Writer.{openingReply, CouldWrite, AcceptedOpening, writes, writerFrom}
 use Rattle.server.specs.Lines.{scanText, afterAll}
@@ -32,7 +32,7 @@ use Rattle.record.specs.Reading.{candidate, judged, readFrame, whole}
 use Rattle.record.specs.declared.Record.{Record}
 use Rattle.succession.specs.Moves.{mayFollowStatus}
 use Rattle.succession.specs.Succession.{first, initializes, begins, widens, preparesCommit, preparesAbort, completes, keeps, follows}
-use Rattle.search.specs.Search.{firstWhere, countWhere, sumOf, find, findLast, filter}
+use Rattle.search.specs.Search.{firstWhere, countWhere, sumOf, find, findLast, filter, Each}
 use Rattle.answers.specs.Answers.{openReply}
 use Rattle.answers.specs.Refusals.{firstRefusal, among}
 use Rattle.table.specs.Next.{succeeds, mayCome}
@@ -120,10 +120,14 @@ pub demanded-places : Demand2 → (log : List ℕ) → openingReply scanText log
     → PlacesByAppearance leftRecords (opening scanText log lengthLeft (pos 2) (pos 1000) (pos 1999) .state .table)
 demanded-places d log = d .places-appear scanText log lengthLeft (pos 2) (pos 1000) (pos 1999) leftRecords leftRest
 
+-- of records that read back, the newest does
+newest : (r : Record) (older : List Record) → Each (ReadsBack (parse scanText .catalogue)) (r ∷ older) → ReadsBack (parse scanText .catalogue) r
+newest r older (here, rest) = here
+
 -- what was written reads back, is written by the list that is made from it, and opens again
 pub demanded-back : Demand2 → (r : Record) (older : List Record) → CouldWrite scanText (r ∷ older) → (at : ℕ) (more : List ℕ)
     → readFrame (parse scanText .catalogue) at (frame (parse scanText .catalogue) r ++ more) ≡ whole (at + length (frame (parse scanText .catalogue) r)) r
-demanded-back d r older w = d .reads-back scanText (r ∷ older) w .0
+demanded-back d r older w = newest r older (d .reads-back scanText (r ∷ older) w)
 
 pub demanded-steps : Demand2 → CouldWrite scanText leftRecords
     → take (logEnd (writtenBy scanText leftRecords .state)) (writtenBy scanText leftRecords .log) ≡ framesOf (parse scanText .catalogue) leftRecords
