@@ -14,7 +14,7 @@ use Rattle.record.specs.Frame.{key, partitionBytes, topicEntry, topicBytes, top
 use Rattle.numbers.specs.Integers.{integerOf, numberFrom}
 use Rattle.record.specs.Record.{nameBytes, nameFits, validName, joinedFits, startFits, fieldsFit, wellFormed}
 use Rattle.record.specs.Topics.{withPartition, partitionsBelow, partitionsOf, partitionsAt, nameStands, topicAt, past, walk}
-use Rattle.record.specs.Reading.{candidate, judged, readFrame}
+use Rattle.record.specs.Reading.{candidate, judged, readFrameWithin}
 use Rattle.succession.specs.Moves.{mayFollowStatus}
 use Rattle.succession.specs.Succession.{first, initializes, begins, widens, preparesCommit, preparesAbort, completes, keeps, follows}
 use Rattle.search.specs.Search.{firstWhere, countWhere, sumOf, find, findLast, filter}
@@ -23,7 +23,7 @@ use Rattle.table.specs.Next.{succeeds, mayCome}
 use Rattle.table.specs.Table.{placeOf, lowestFree, reserved, apply}
 use Rattle.log_reader.specs.Read.{readTests}
 use Rattle.log_reader.specs.Records.{framesOf}
-use Rattle.log_reader.specs.Scan.{scan}
+use Rattle.log_reader.specs.Scan.{scanWithin}
 use Rattle.coordinator.specs.Coordinator.{admits}
 use Rattle.coordinator.specs.Open.{takeOverTests, openTests, opening}
 use Rattle.coordinator.specs.Order.{ordered, orderPlace, order}
@@ -78,7 +78,7 @@ unfolding run ones same firstRefusal firstWhere countWhere find findLast filter 
 not-in-time = λ k. let (here, rest) = k (tt, tt) in fails (here (leb-true 1 1 refl))
 
 pub not-restarting : (x : NoRestart) → Restarts (noRestart x .phase) (noRestart x) → ⊥
-unfolding framesOf readFrame judged candidate wellFormed validName fieldsFit joinedFits startFits integerOf numberFrom walk past topicAt nameStands partitionsAt partitionsOf partitionsBelow withPartition mayCome succeeds first follows keeps mayFollowStatus initializes begins widens preparesCommit preparesAbort completes nameBytes nameFits scan placeOf lowestFree reserved apply readTests takeOverTests openTests opening firstRefusal firstWhere countWhere sumOf trailingZeros ones overwrite same bigEndian integerBytes untilZero members nameByte nameRun isLine lineAt isNew catalogueLines parse key partitionBytes topicEntry topicBytes topicsBelow countBelow topics value frame
+unfolding framesOf readFrameWithin judged candidate wellFormed validName fieldsFit joinedFits startFits integerOf numberFrom walk past topicAt nameStands partitionsAt partitionsOf partitionsBelow withPartition mayCome succeeds first follows keeps mayFollowStatus initializes begins widens preparesCommit preparesAbort completes nameBytes nameFits scanWithin placeOf lowestFree reserved apply readTests takeOverTests openTests opening firstRefusal firstWhere countWhere sumOf trailingZeros ones overwrite same bigEndian integerBytes untilZero members nameByte nameRun isLine lineAt isNew catalogueLines parse key partitionBytes topicEntry topicBytes topicsBelow countBelow topics value frame
 not-restarting badLog = λ k. differ 6 0 refl refl (k (pos 0) (pos 0) (pos 0) refl)
 not-restarting tooLittleRoom = λ k. differ 17 0 refl refl (k (pos 0) (pos 0) (pos 0) refl)
 not-restarting pastBuffer = λ k. differ 7 0 refl refl (k (pos 0) (pos 0) (pos 0) refl)
@@ -108,5 +108,5 @@ cut-not-promised = λ p. let (here, rest) = p .kept in here .stands
 
 -- nor if what that cut leaves is past the buffer
 pub end-not-promised : Promised (withoutOrder takenForUnflushed) (cut 120 ∷ []) → ⊥
-unfolding framesOf readFrame judged candidate wellFormed validName fieldsFit joinedFits startFits integerOf numberFrom walk past topicAt nameStands partitionsAt partitionsOf partitionsBelow withPartition mayCome succeeds first follows keeps mayFollowStatus initializes begins widens preparesCommit preparesAbort completes nameBytes nameFits scan placeOf lowestFree reserved apply readTests takeOverTests openTests opening firstRefusal firstWhere countWhere sumOf trailingZeros ones overwrite same bigEndian integerBytes untilZero members nameByte nameRun isLine lineAt isNew catalogueLines parse key partitionBytes topicEntry topicBytes topicsBelow countBelow topics value frame run
+unfolding framesOf readFrameWithin judged candidate wellFormed validName fieldsFit joinedFits startFits integerOf numberFrom walk past topicAt nameStands partitionsAt partitionsOf partitionsBelow withPartition mayCome succeeds first follows keeps mayFollowStatus initializes begins widens preparesCommit preparesAbort completes nameBytes nameFits scanWithin placeOf lowestFree reserved apply readTests takeOverTests openTests opening firstRefusal firstWhere countWhere sumOf trailingZeros ones overwrite same bigEndian integerBytes untilZero members nameByte nameRun isLine lineAt isNew catalogueLines parse key partitionBytes topicEntry topicBytes topicsBelow countBelow topics value frame run
 end-not-promised = λ p. differ 7 0 refl refl (p .holds .restarts (pos 0) (pos 0) (pos 0) refl)

@@ -15,7 +15,7 @@ use Rattle.record.specs.Frame.{key, partitionBytes, topicEntry, topicBytes, top
 use Rattle.numbers.specs.Integers.{integerOf, numberFrom}
 use Rattle.record.specs.Record.{nameBytes, nameFits, validName, joinedFits, startFits, fieldsFit, wellFormed}
 use Rattle.record.specs.Topics.{withPartition, partitionsBelow, partitionsOf, partitionsAt, nameStands, topicAt, past, walk}
-use Rattle.record.specs.Reading.{candidate, judged, readFrame}
+use Rattle.record.specs.Reading.{candidate, judged, readFrameWithin}
 use Rattle.record.specs.declared.FrameAt.{FrameAt}
 use Rattle.row.specs.Row.{isBegin}
 use Rattle.row.specs.declared.Row.{Row}
@@ -28,7 +28,7 @@ use Rattle.table.specs.Next.{succeeds, mayCome}
 use Rattle.table.specs.Table.{placeOf, lowestFree, reserved, apply}
 use Rattle.log_reader.specs.Read.{readTests}
 use Rattle.log_reader.specs.Records.{framesOf}
-use Rattle.log_reader.specs.Scan.{isWhole, scan}
+use Rattle.log_reader.specs.Scan.{isWhole, scanWithin}
 use Rattle.coordinator.specs.Coordinator.{admits}
 use Rattle.coordinator.specs.Open.{takeOverTests, openTests, opening}
 use Rattle.coordinator.specs.declared.OpenedLog.{OpenedLog}
@@ -81,7 +81,7 @@ pub not-said-numbers : (x : Misnumbered) → TableSays scans bothRecords (misnum
 not-said-numbers x = λ k. not-its-numbers x (k .numbers)
 
 pub not-read-back : (x : Unreadable) → ReadsBack scans (unreadable x) → ⊥
-unfolding readFrame judged candidate wellFormed validName fieldsFit joinedFits startFits integerOf numberFrom walk past topicAt nameStands partitionsAt partitionsOf partitionsBelow withPartition nameBytes nameFits ones overwrite same bigEndian integerBytes untilZero members nameByte nameRun isLine lineAt isNew catalogueLines parse key partitionBytes topicEntry topicBytes topicsBelow countBelow topics value frame
+unfolding readFrameWithin judged candidate wellFormed validName fieldsFit joinedFits startFits integerOf numberFrom walk past topicAt nameStands partitionsAt partitionsOf partitionsBelow withPartition nameBytes nameFits ones overwrite same bigEndian integerBytes untilZero members nameByte nameRun isLine lineAt isNew catalogueLines parse key partitionBytes topicEntry topicBytes topicsBelow countBelow topics value frame
 not-read-back timeoutZero = λ k. fails (ap (λ (f : FrameAt). isWhole (f .reading)) (k 0 []))
 not-read-back negativePid = λ k. fails (ap (λ (f : FrameAt). isWhole (f .reading)) (k 0 []))
 not-read-back startInEmpty = λ k. fails (ap (λ (f : FrameAt). isWhole (f .reading)) (k 0 []))
@@ -91,7 +91,7 @@ not-read-back partitionDropped = λ k. differ 1 5 refl refl (ap (λ (f : FrameAt
 
 -- nor is it a record that the server could have written
 pub not-written : (x : Unreadable) → CouldWrite scanText (unreadable x ∷ []) → ⊥
-unfolding readFrame judged candidate wellFormed validName fieldsFit joinedFits startFits integerOf numberFrom walk past topicAt nameStands partitionsAt partitionsOf partitionsBelow withPartition nameBytes nameFits ones overwrite same bigEndian integerBytes untilZero members nameByte nameRun isLine lineAt isNew catalogueLines parse key partitionBytes topicEntry topicBytes topicsBelow countBelow topics value frame
+unfolding readFrameWithin judged candidate wellFormed validName fieldsFit joinedFits startFits integerOf numberFrom walk past topicAt nameStands partitionsAt partitionsOf partitionsBelow withPartition nameBytes nameFits ones overwrite same bigEndian integerBytes untilZero members nameByte nameRun isLine lineAt isNew catalogueLines parse key partitionBytes topicEntry topicBytes topicsBelow countBelow topics value frame
 not-written timeoutZero = λ k. let (here, rest) = k .well-formed in fails here
 not-written negativePid = λ k. let (here, rest) = k .well-formed in fails here
 not-written startInEmpty = λ k. let (here, rest) = k .well-formed in fails here
@@ -118,7 +118,7 @@ not-in-order negativeFirst = λ k. passes (k .numbers)
 not-in-order lastBelowFirst = λ k. passes (k .numbers)
 
 pub not-opening-again : (x : NotReopened) → OpensAgain scanText (notReopened x) → ⊥
-unfolding framesOf sumOf reserved admits scan readTests takeOverTests openTests opening firstRefusal firstWhere placeOf lowestFree apply succeeds mayCome mayFollowStatus first initializes begins widens preparesCommit preparesAbort completes keeps follows readFrame judged candidate wellFormed validName fieldsFit joinedFits startFits integerOf numberFrom walk past topicAt nameStands partitionsAt partitionsOf partitionsBelow withPartition nameBytes nameFits ones overwrite same bigEndian integerBytes untilZero members nameByte nameRun isLine lineAt isNew catalogueLines parse key partitionBytes topicEntry topicBytes topicsBelow countBelow topics value frame
+unfolding framesOf sumOf reserved admits scanWithin readTests takeOverTests openTests opening firstRefusal firstWhere placeOf lowestFree apply succeeds mayCome mayFollowStatus first initializes begins widens preparesCommit preparesAbort completes keeps follows readFrameWithin judged candidate wellFormed validName fieldsFit joinedFits startFits integerOf numberFrom walk past topicAt nameStands partitionsAt partitionsOf partitionsBelow withPartition nameBytes nameFits ones overwrite same bigEndian integerBytes untilZero members nameByte nameRun isLine lineAt isNew catalogueLines parse key partitionBytes topicEntry topicBytes topicsBelow countBelow topics value frame
 not-opening-again writtenBad = λ k.
     let e = k .opens 8 (pos 0) (pos 0) (pos 0) (leb-true 0 8 refl) (leb-true 8 8 refl) refl in
     differ 6 0 refl refl (ap (λ (o : OpenedLog). openReply (o .answer) .number) e)

@@ -15,7 +15,7 @@ use Rattle.catalogue.specs.Catalogue.{nameByte, nameRun, isLine, lineAt, isNew,
 use Rattle.record.specs.Frame.{key, partitionBytes, topicEntry, topicBytes, topicsBelow, countBelow, topics, value, frame}
 use Rattle.record.specs.Record.{nameBytes, nameFits, validName, joinedFits, startFits, fieldsFit, wellFormed}
 use Rattle.record.specs.Topics.{withPartition, partitionsBelow, partitionsOf, partitionsAt, nameStands, topicAt, past, walk}
-use Rattle.record.specs.Reading.{candidate, judged, readFrame}
+use Rattle.record.specs.Reading.{candidate, judged, readFrameWithin}
 use Rattle.record.specs.declared.Record.{Record}
 use Rattle.search.specs.Search.{Each, firstWhere, sumOf, find}
 use Rattle.answers.specs.Refusals.{firstRefusal}
@@ -25,7 +25,7 @@ use Rattle.table.specs.Next.{succeeds, mayCome}
 use Rattle.table.specs.Table.{placeOf, lowestFree, reserved, apply}
 use Rattle.log_reader.specs.Read.{readTests}
 use Rattle.log_reader.specs.Records.{framesOf, tableFrom, allCome}
-use Rattle.log_reader.specs.Scan.{scan}
+use Rattle.log_reader.specs.Scan.{scanWithin}
 use Rattle.coordinator.specs.Coordinator.{logEnd}
 use Rattle.coordinator.specs.Open.{takeOverTests, openTests, opening}
 use Rattle.writable_logs.specs.Items.{itemsFor, roomFor}
@@ -68,7 +68,7 @@ unwritten-not-openable x = λ k. not-in-turn x (k .written)
 
 -- an empty log is opened in the buffer of the list that is made from them
 opening-accepted : (x : OutOfTurn) → openingReply scanText (replicate (roomFor (outOfTurn x)) 0) 0 (pos 0) (pos 0) (pos 0) .number ≡ 0
-unfolding scan readTests takeOverTests openTests opening firstRefusal sumOf reserved ones untilZero members nameByte nameRun isLine lineAt isNew catalogueLines parse same
+unfolding scanWithin readTests takeOverTests openTests opening firstRefusal sumOf reserved ones untilZero members nameByte nameRun isLine lineAt isNew catalogueLines parse same
 opening-accepted beginFirst = refl
 opening-accepted notPrepared = refl
 opening-accepted otherVerdict = refl
@@ -107,7 +107,7 @@ one-offset x y =
 
 -- and an opening answers it
 pub bad-at-53 : FirstBad scanText badSecond 53
-unfolding framesOf scan readTests takeOverTests openTests opening firstRefusal apply lowestFree placeOf firstWhere succeeds mayCome mayFollowStatus first initializes begins widens preparesCommit preparesAbort completes keeps follows readFrame judged candidate wellFormed validName fieldsFit joinedFits startFits integerOf numberFrom walk past topicAt nameStands partitionsAt partitionsOf partitionsBelow withPartition nameBytes nameFits ones overwrite same bigEndian integerBytes untilZero members nameByte nameRun isLine lineAt isNew catalogueLines parse key partitionBytes topicEntry topicBytes topicsBelow countBelow topics value frame
+unfolding framesOf scanWithin readTests takeOverTests openTests opening firstRefusal apply lowestFree placeOf firstWhere succeeds mayCome mayFollowStatus first initializes begins widens preparesCommit preparesAbort completes keeps follows readFrameWithin judged candidate wellFormed validName fieldsFit joinedFits startFits integerOf numberFrom walk past topicAt nameStands partitionsAt partitionsOf partitionsBelow withPartition nameBytes nameFits ones overwrite same bigEndian integerBytes untilZero members nameByte nameRun isLine lineAt isNew catalogueLines parse key partitionBytes topicEntry topicBytes topicsBelow countBelow topics value frame
 bad-at-53 = demand-2 .bad-offset scanText badSecond 159 53 (pos 1) (pos 1000) (pos 1999) refl
 
 pub not-first-bad : (x : OtherOffset) → FirstBad scanText badSecond (offsetOf x) → ⊥

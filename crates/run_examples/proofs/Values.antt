@@ -12,14 +12,14 @@ use Rattle.catalogue.specs.Catalogue.{nameByte, nameRun, isLine, lineAt, isNew,
 use Rattle.record.specs.Record.{nameBytes, nameFits, validName, joinedFits, startFits, fieldsFit, wellFormed}
 use Rattle.record.specs.Frame.{key, partitionBytes, topicEntry, topicBytes, topicsBelow, countBelow, topics, value, frame}
 use Rattle.record.specs.Topics.{withPartition, partitionsBelow, partitionsOf, partitionsAt, nameStands, topicAt, past, walk}
-use Rattle.record.specs.Reading.{candidate, judged, readFrame}
+use Rattle.record.specs.Reading.{candidate, judged, readFrameWithin}
 use Rattle.succession.specs.Moves.{mayFollowStatus}
 use Rattle.succession.specs.Succession.{first, initializes, begins, widens, preparesCommit, preparesAbort, completes, keeps, follows}
 use Rattle.search.specs.Search.{firstWhere, countWhere, sumOf, find, findLast, filter}
 use Rattle.answers.specs.Refusals.{firstRefusal}
 use Rattle.table.specs.Next.{succeeds, mayCome}
 use Rattle.log_reader.specs.Read.{readTests}
-use Rattle.log_reader.specs.Scan.{scan}
+use Rattle.log_reader.specs.Scan.{scanWithin}
 use Rattle.table.specs.Table.{placeOf, lowestFree, idCount, reserved, apply}
 use Rattle.coordinator.specs.Coordinator.{admits, notHeld, logFull, appended, acknowledged}
 use Rattle.coordinator.specs.Open.{takeOverTests, openTests, opening}
@@ -49,7 +49,7 @@ use Rattle.run_examples.specs.Examples.{after}
 use Rattle.run_examples.specs.Values.{Moment, unflushedPrepare, shortFlush, flushedPrepare, lostPrepare, secondTransaction, ordersUnderWay, ordersOfBoth, bothCompleted, completeCut, completeLostThen, carriedAgain, itemsTo, leftAt, expectedLeft, factsOf, expectedFacts, PremiseMet}
 
 pub facts-hold : (m : Moment) → factsOf (after (itemsTo m) .history) ≡ expectedFacts m
-unfolding openLeaders run collect collectWithBefore endingBy recordsOf framesOf flushedOf wordsOf recordsRead find findLast filter ones overwrite same bigEndian integerBytes untilZero members nameByte nameRun isLine lineAt isNew catalogueLines parse nameBytes key partitionBytes topicEntry topicBytes topicsBelow countBelow topics value frame firstWhere countWhere sumOf firstRefusal nameFits scan placeOf lowestFree idCount reserved apply admits notHeld logFull appended readTests takeOverTests openTests opening initRow initTests initRowTests initAccepted init allJoined addRow addTests addRowTests addAction add overdue overduePlace tickTests tickAccepted tick flushTests flush openPartition openCount partitionAdmits lastSequence nextSequence produced partitionFull produceTests produceRowTests produce readFrame judged candidate wellFormed validName fieldsFit joinedFits startFits integerOf numberFrom walk past topicAt nameStands partitionsAt partitionsOf partitionsBelow withPartition mayCome succeeds first follows keeps mayFollowStatus initializes begins widens preparesCommit preparesAbort completes ackTests ackRowTests ackAction ack acknowledged endFits endTests endRowTests endAction end ordered orderPlace order markerTests closed markerAction marker oldest nextMarker committed copy readOffsetTests readAnswer readOut trailingZeros
+unfolding openLeaders run collect collectWithBefore endingBy recordsOf framesOf flushedOf wordsOf recordsRead find findLast filter ones overwrite same bigEndian integerBytes untilZero members nameByte nameRun isLine lineAt isNew catalogueLines parse nameBytes key partitionBytes topicEntry topicBytes topicsBelow countBelow topics value frame firstWhere countWhere sumOf firstRefusal nameFits scanWithin placeOf lowestFree idCount reserved apply admits notHeld logFull appended readTests takeOverTests openTests opening initRow initTests initRowTests initAccepted init allJoined addRow addTests addRowTests addAction add overdue overduePlace tickTests tickAccepted tick flushTests flush openPartition openCount partitionAdmits lastSequence nextSequence produced partitionFull produceTests produceRowTests produce readFrameWithin judged candidate wellFormed validName fieldsFit joinedFits startFits integerOf numberFrom walk past topicAt nameStands partitionsAt partitionsOf partitionsBelow withPartition mayCome succeeds first follows keeps mayFollowStatus initializes begins widens preparesCommit preparesAbort completes ackTests ackRowTests ackAction ack acknowledged endFits endTests endRowTests endAction end ordered orderPlace order markerTests closed markerAction marker oldest nextMarker committed copy readOffsetTests readAnswer readOut trailingZeros
 facts-hold unflushedPrepare = refl
 facts-hold shortFlush = refl
 facts-hold flushedPrepare = refl
@@ -63,7 +63,7 @@ facts-hold completeLostThen = refl
 facts-hold carriedAgain = refl
 
 pub left-hold : (m : Moment) → leftAt (after (itemsTo m) .phase) ≡ expectedLeft m
-unfolding openLeaders run collect collectWithBefore endingBy recordsOf framesOf flushedOf wordsOf recordsRead find findLast filter ones overwrite same bigEndian integerBytes untilZero members nameByte nameRun isLine lineAt isNew catalogueLines parse nameBytes key partitionBytes topicEntry topicBytes topicsBelow countBelow topics value frame firstWhere countWhere sumOf firstRefusal nameFits scan placeOf lowestFree idCount reserved apply admits notHeld logFull appended readTests takeOverTests openTests opening initRow initTests initRowTests initAccepted init allJoined addRow addTests addRowTests addAction add overdue overduePlace tickTests tickAccepted tick flushTests flush openPartition openCount partitionAdmits lastSequence nextSequence produced partitionFull produceTests produceRowTests produce readFrame judged candidate wellFormed validName fieldsFit joinedFits startFits integerOf numberFrom walk past topicAt nameStands partitionsAt partitionsOf partitionsBelow withPartition mayCome succeeds first follows keeps mayFollowStatus initializes begins widens preparesCommit preparesAbort completes ackTests ackRowTests ackAction ack acknowledged endFits endTests endRowTests endAction end ordered orderPlace order markerTests closed markerAction marker oldest nextMarker committed copy readOffsetTests readAnswer readOut trailingZeros
+unfolding openLeaders run collect collectWithBefore endingBy recordsOf framesOf flushedOf wordsOf recordsRead find findLast filter ones overwrite same bigEndian integerBytes untilZero members nameByte nameRun isLine lineAt isNew catalogueLines parse nameBytes key partitionBytes topicEntry topicBytes topicsBelow countBelow topics value frame firstWhere countWhere sumOf firstRefusal nameFits scanWithin placeOf lowestFree idCount reserved apply admits notHeld logFull appended readTests takeOverTests openTests opening initRow initTests initRowTests initAccepted init allJoined addRow addTests addRowTests addAction add overdue overduePlace tickTests tickAccepted tick flushTests flush openPartition openCount partitionAdmits lastSequence nextSequence produced partitionFull produceTests produceRowTests produce readFrameWithin judged candidate wellFormed validName fieldsFit joinedFits startFits integerOf numberFrom walk past topicAt nameStands partitionsAt partitionsOf partitionsBelow withPartition mayCome succeeds first follows keeps mayFollowStatus initializes begins widens preparesCommit preparesAbort completes ackTests ackRowTests ackAction ack acknowledged endFits endTests endRowTests endAction end ordered orderPlace order markerTests closed markerAction marker oldest nextMarker committed copy readOffsetTests readAnswer readOut trailingZeros
 left-hold unflushedPrepare = refl
 left-hold shortFlush = refl
 left-hold flushedPrepare = refl
@@ -78,22 +78,22 @@ left-hold carriedAgain = refl
 
 -- one of two is acknowledged
 pub left-half : leftAt (afterShared .phase) ≡ 1
-unfolding openLeaders run collect collectWithBefore endingBy recordsOf framesOf flushedOf wordsOf recordsRead find findLast filter ones overwrite same bigEndian integerBytes untilZero members nameByte nameRun isLine lineAt isNew catalogueLines parse nameBytes key partitionBytes topicEntry topicBytes topicsBelow countBelow topics value frame firstWhere countWhere sumOf firstRefusal nameFits scan placeOf lowestFree idCount reserved apply admits notHeld logFull appended readTests takeOverTests openTests opening initRow initTests initRowTests initAccepted init allJoined addRow addTests addRowTests addAction add overdue overduePlace tickTests tickAccepted tick flushTests flush openPartition openCount partitionAdmits lastSequence nextSequence produced partitionFull produceTests produceRowTests produce readFrame judged candidate wellFormed validName fieldsFit joinedFits startFits integerOf numberFrom walk past topicAt nameStands partitionsAt partitionsOf partitionsBelow withPartition mayCome succeeds first follows keeps mayFollowStatus initializes begins widens preparesCommit preparesAbort completes ackTests ackRowTests ackAction ack acknowledged endFits endTests endRowTests endAction end ordered orderPlace order markerTests closed markerAction marker oldest nextMarker committed copy readOffsetTests readAnswer readOut trailingZeros
+unfolding openLeaders run collect collectWithBefore endingBy recordsOf framesOf flushedOf wordsOf recordsRead find findLast filter ones overwrite same bigEndian integerBytes untilZero members nameByte nameRun isLine lineAt isNew catalogueLines parse nameBytes key partitionBytes topicEntry topicBytes topicsBelow countBelow topics value frame firstWhere countWhere sumOf firstRefusal nameFits scanWithin placeOf lowestFree idCount reserved apply admits notHeld logFull appended readTests takeOverTests openTests opening initRow initTests initRowTests initAccepted init allJoined addRow addTests addRowTests addAction add overdue overduePlace tickTests tickAccepted tick flushTests flush openPartition openCount partitionAdmits lastSequence nextSequence produced partitionFull produceTests produceRowTests produce readFrameWithin judged candidate wellFormed validName fieldsFit joinedFits startFits integerOf numberFrom walk past topicAt nameStands partitionsAt partitionsOf partitionsBelow withPartition mayCome succeeds first follows keeps mayFollowStatus initializes begins widens preparesCommit preparesAbort completes ackTests ackRowTests ackAction ack acknowledged endFits endTests endRowTests endAction end ordered orderPlace order markerTests closed markerAction marker oldest nextMarker committed copy readOffsetTests readAnswer readOut trailingZeros
 left-half = refl
 
 -- the list that carries two orders, each by the number that its event has
 pub carry-each-holds : carryEach 2 (after prepared) ≡ carry 9 ++ carry 12
-unfolding carryEach openLeaders run collect collectWithBefore endingBy recordsOf framesOf flushedOf wordsOf recordsRead find findLast filter ones overwrite same bigEndian integerBytes untilZero members nameByte nameRun isLine lineAt isNew catalogueLines parse nameBytes key partitionBytes topicEntry topicBytes topicsBelow countBelow topics value frame firstWhere countWhere sumOf firstRefusal nameFits scan placeOf lowestFree idCount reserved apply admits notHeld logFull appended readTests takeOverTests openTests opening initRow initTests initRowTests initAccepted init allJoined addRow addTests addRowTests addAction add overdue overduePlace tickTests tickAccepted tick flushTests flush openPartition openCount partitionAdmits lastSequence nextSequence produced partitionFull produceTests produceRowTests produce readFrame judged candidate wellFormed validName fieldsFit joinedFits startFits integerOf numberFrom walk past topicAt nameStands partitionsAt partitionsOf partitionsBelow withPartition mayCome succeeds first follows keeps mayFollowStatus initializes begins widens preparesCommit preparesAbort completes ackTests ackRowTests ackAction ack acknowledged endFits endTests endRowTests endAction end ordered orderPlace order markerTests closed markerAction marker oldest nextMarker committed copy readOffsetTests readAnswer readOut trailingZeros
+unfolding carryEach openLeaders run collect collectWithBefore endingBy recordsOf framesOf flushedOf wordsOf recordsRead find findLast filter ones overwrite same bigEndian integerBytes untilZero members nameByte nameRun isLine lineAt isNew catalogueLines parse nameBytes key partitionBytes topicEntry topicBytes topicsBelow countBelow topics value frame firstWhere countWhere sumOf firstRefusal nameFits scanWithin placeOf lowestFree idCount reserved apply admits notHeld logFull appended readTests takeOverTests openTests opening initRow initTests initRowTests initAccepted init allJoined addRow addTests addRowTests addAction add overdue overduePlace tickTests tickAccepted tick flushTests flush openPartition openCount partitionAdmits lastSequence nextSequence produced partitionFull produceTests produceRowTests produce readFrameWithin judged candidate wellFormed validName fieldsFit joinedFits startFits integerOf numberFrom walk past topicAt nameStands partitionsAt partitionsOf partitionsBelow withPartition mayCome succeeds first follows keeps mayFollowStatus initializes begins widens preparesCommit preparesAbort completes ackTests ackRowTests ackAction ack acknowledged endFits endTests endRowTests endAction end ordered orderPlace order markerTests closed markerAction marker oldest nextMarker committed copy readOffsetTests readAnswer readOut trailingZeros
 carry-each-holds = refl
 
 -- a commit of two partitions, from the moment when its prepare is flushed
 pub premise-met : PremiseMet (after prepared) (carry 9 ++ carry 12) 7
-unfolding openLeaders run collect collectWithBefore endingBy recordsOf framesOf flushedOf wordsOf recordsRead find findLast filter ones overwrite same bigEndian integerBytes untilZero members nameByte nameRun isLine lineAt isNew catalogueLines parse nameBytes key partitionBytes topicEntry topicBytes topicsBelow countBelow topics value frame firstWhere countWhere sumOf firstRefusal nameFits scan placeOf lowestFree idCount reserved apply admits notHeld logFull appended readTests takeOverTests openTests opening initRow initTests initRowTests initAccepted init allJoined addRow addTests addRowTests addAction add overdue overduePlace tickTests tickAccepted tick flushTests flush openPartition openCount partitionAdmits lastSequence nextSequence produced partitionFull produceTests produceRowTests produce readFrame judged candidate wellFormed validName fieldsFit joinedFits startFits integerOf numberFrom walk past topicAt nameStands partitionsAt partitionsOf partitionsBelow withPartition mayCome succeeds first follows keeps mayFollowStatus initializes begins widens preparesCommit preparesAbort completes ackTests ackRowTests ackAction ack acknowledged endFits endTests endRowTests endAction end ordered orderPlace order markerTests closed markerAction marker oldest nextMarker committed copy readOffsetTests readAnswer readOut trailingZeros
+unfolding openLeaders run collect collectWithBefore endingBy recordsOf framesOf flushedOf wordsOf recordsRead find findLast filter ones overwrite same bigEndian integerBytes untilZero members nameByte nameRun isLine lineAt isNew catalogueLines parse nameBytes key partitionBytes topicEntry topicBytes topicsBelow countBelow topics value frame firstWhere countWhere sumOf firstRefusal nameFits scanWithin placeOf lowestFree idCount reserved apply admits notHeld logFull appended readTests takeOverTests openTests opening initRow initTests initRowTests initAccepted init allJoined addRow addTests addRowTests addAction add overdue overduePlace tickTests tickAccepted tick flushTests flush openPartition openCount partitionAdmits lastSequence nextSequence produced partitionFull produceTests produceRowTests produce readFrameWithin judged candidate wellFormed validName fieldsFit joinedFits startFits integerOf numberFrom walk past topicAt nameStands partitionsAt partitionsOf partitionsBelow withPartition mayCome succeeds first follows keeps mayFollowStatus initializes begins widens preparesCommit preparesAbort completes ackTests ackRowTests ackAction ack acknowledged endFits endTests endRowTests endAction end ordered orderPlace order markerTests closed markerAction marker oldest nextMarker committed copy readOffsetTests readAnswer readOut trailingZeros
 premise-met = record { undisturbed = (refl, (tt, (tt, (refl, (tt, (tt, tt)))))); pending = refl; enough = (leb-true 2 2 refl, tt); completes = (refl, tt) }
 
 -- the same after a cut that took the complete record: the orders carried before it do not count
 pub premise-met-again : PremiseMet (after completeLost) (carry 18 ++ carry 20) 7
-unfolding openLeaders run collect collectWithBefore endingBy recordsOf framesOf flushedOf wordsOf recordsRead find findLast filter ones overwrite same bigEndian integerBytes untilZero members nameByte nameRun isLine lineAt isNew catalogueLines parse nameBytes key partitionBytes topicEntry topicBytes topicsBelow countBelow topics value frame firstWhere countWhere sumOf firstRefusal nameFits scan placeOf lowestFree idCount reserved apply admits notHeld logFull appended readTests takeOverTests openTests opening initRow initTests initRowTests initAccepted init allJoined addRow addTests addRowTests addAction add overdue overduePlace tickTests tickAccepted tick flushTests flush openPartition openCount partitionAdmits lastSequence nextSequence produced partitionFull produceTests produceRowTests produce readFrame judged candidate wellFormed validName fieldsFit joinedFits startFits integerOf numberFrom walk past topicAt nameStands partitionsAt partitionsOf partitionsBelow withPartition mayCome succeeds first follows keeps mayFollowStatus initializes begins widens preparesCommit preparesAbort completes ackTests ackRowTests ackAction ack acknowledged endFits endTests endRowTests endAction end ordered orderPlace order markerTests closed markerAction marker oldest nextMarker committed copy readOffsetTests readAnswer readOut trailingZeros
+unfolding openLeaders run collect collectWithBefore endingBy recordsOf framesOf flushedOf wordsOf recordsRead find findLast filter ones overwrite same bigEndian integerBytes untilZero members nameByte nameRun isLine lineAt isNew catalogueLines parse nameBytes key partitionBytes topicEntry topicBytes topicsBelow countBelow topics value frame firstWhere countWhere sumOf firstRefusal nameFits scanWithin placeOf lowestFree idCount reserved apply admits notHeld logFull appended readTests takeOverTests openTests opening initRow initTests initRowTests initAccepted init allJoined addRow addTests addRowTests addAction add overdue overduePlace tickTests tickAccepted tick flushTests flush openPartition openCount partitionAdmits lastSequence nextSequence produced partitionFull produceTests produceRowTests produce readFrameWithin judged candidate wellFormed validName fieldsFit joinedFits startFits integerOf numberFrom walk past topicAt nameStands partitionsAt partitionsOf partitionsBelow withPartition mayCome succeeds first follows keeps mayFollowStatus initializes begins widens preparesCommit preparesAbort completes ackTests ackRowTests ackAction ack acknowledged endFits endTests endRowTests endAction end ordered orderPlace order markerTests closed markerAction marker oldest nextMarker committed copy readOffsetTests readAnswer readOut trailingZeros
 premise-met-again = record { undisturbed = (refl, (tt, (tt, (refl, (tt, (tt, tt)))))); pending = refl; enough = (leb-true 4 4 refl, tt); completes = (refl, tt) }
 
 -- so the clause says of these runs that the prepare completes

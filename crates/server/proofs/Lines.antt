@@ -12,7 +12,7 @@ use Rattle.record.specs.Frame.{key, partitionBytes, topicEntry, topicBytes, top
 use Rattle.search.specs.Search.{firstWhere, countWhere, sumOf}
 use Rattle.answers.specs.Refusals.{firstRefusal}
 use Rattle.log_reader.specs.Read.{readTests}
-use Rattle.log_reader.specs.Scan.{scan}
+use Rattle.log_reader.specs.Scan.{scanWithin}
 use Rattle.table.specs.Table.{placeOf, lowestFree, idCount, reserved, apply}
 use Rattle.coordinator.specs.Coordinator.{admits, notHeld, logFull, appended}
 use Rattle.coordinator.specs.Open.{takeOverTests, openTests, opening}
@@ -27,5 +27,5 @@ use Rattle.server.specs.Lines.{Line, outcome, afterAll, lines}
 
 -- document 01: "T1 to T12 are proved about the definitions together, as a table with a theorem over all its rows"
 pub lines-hold : map outcome lines ≡ map (λ (l : Line). l .expected) lines
-unfolding outcome afterAll ones overwrite same bigEndian integerBytes untilZero members nameByte nameRun isLine lineAt isNew catalogueLines parse nameBytes key partitionBytes topicEntry topicBytes topicsBelow countBelow topics value frame firstWhere countWhere sumOf firstRefusal nameFits scan placeOf lowestFree idCount reserved apply admits notHeld logFull appended readTests takeOverTests openTests opening initRow initTests initRowTests initAccepted init allJoined addRow addTests addRowTests addAction add overdue overduePlace tickTests tickAccepted tick flushTests flush openPartition openCount partitionAdmits lastSequence nextSequence produced partitionFull produceTests produceRowTests produce
+unfolding outcome afterAll ones overwrite same bigEndian integerBytes untilZero members nameByte nameRun isLine lineAt isNew catalogueLines parse nameBytes key partitionBytes topicEntry topicBytes topicsBelow countBelow topics value frame firstWhere countWhere sumOf firstRefusal nameFits scanWithin placeOf lowestFree idCount reserved apply admits notHeld logFull appended readTests takeOverTests openTests opening initRow initTests initRowTests initAccepted init allJoined addRow addTests addRowTests addAction add overdue overduePlace tickTests tickAccepted tick flushTests flush openPartition openCount partitionAdmits lastSequence nextSequence produced partitionFull produceTests produceRowTests produce
 lines-hold = refl

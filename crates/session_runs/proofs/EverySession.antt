@@ -16,7 +16,7 @@ use Rattle.answers.specs.Answers.{refused}
 use Rattle.answers.specs.Refusals.{firstRefusal}
 use Rattle.answers.proofs.Laws.{none-is}
 use Rattle.table.specs.Table.{reserved}
-use Rattle.log_reader.specs.Scan.{scan}
+use Rattle.log_reader.specs.Scan.{scanWithin}
 use Rattle.log_reader.specs.Read.{readTests}
 use Rattle.coordinator.specs.Coordinator.{logEnd}
 use Rattle.coordinator.specs.Open.{takeOverTests, openTests}
@@ -52,7 +52,7 @@ use Rattle.session_runs.proofs.Cuts.{cut-shown, cut-accepted}
 
 -- an empty log opens, whatever stands in the buffer
 tests-pass : (log : List ℕ) → firstRefusal (openTests catalogueText log 0 firstEpoch firstPid lastPid) ≡ 0
-unfolding overwrite same untilZero nameByte nameRun isLine lineAt isNew catalogueLines parse scan reserved sumOf readTests takeOverTests openTests
+unfolding overwrite same untilZero nameByte nameRun isLine lineAt isNew catalogueLines parse scanWithin reserved sumOf readTests takeOverTests openTests
 tests-pass log =
     none-is (openTests catalogueText log 0 firstEpoch firstPid lastPid) (refl, (le-ltb (length log) 0 (omega arith), (refl, (refl, (le-ltb (length log) 0 (omega arith), tt)))))
 
