@@ -3,6 +3,7 @@ pub mod Coordinator
 pub mod Named
 pub mod Change
 pub mod Open
+pub mod OlderLogs
 pub mod Init
 pub mod Add
 pub mod End

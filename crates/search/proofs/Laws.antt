@@ -4,7 +4,7 @@ use mathlib.Core.Path.{_≡_, refl, ap, _∙_}
 use mathlib.Core.Bool.{Bool, true, false, cond}
 use mathlib.Core.Logic.{_↔_}
 use mathlib.Core.List.{List, [], _∷_, _++_, map}
-use native.Mathlib.Nat.{add-zero, zero-add, mul-add, mul-one}
+use native.Mathlib.Nat.{add-zero, zero-add, mul-add, mul-one, mul-zero}
 use native.Mathlib.Numerals.{add-one}
 use native.Mathlib.Omega.{arith}
 use lib.ListN.{length, take, drop, getD, set, replicate, drop-of-length-le}
@@ -175,6 +175,17 @@ module _ {A : Type 0} (f : A → ℕ) where
       let here : f x ≤ cond (p x) k 0 = h 0 (omega arith) in
       either (p x) (λ e. let most : f x ≤ k = rw e at here in rw (e, mul-add k 1 (countWhere p l), mul-one k) (omega arith))
       (λ e. let most : f x ≤ 0 = rw e at here in rw (e, zero-add (countWhere p l)) (omega arith))
+
+  -- where each element adds a number if it passes one test, and another if it passes another
+  pub sum-counts : (p q : A → Bool) (a b : ℕ) → ((x : A) → f x ≡ cond (p x) a 0 + cond (q x) b 0) → (l : List A) → sumOf f l ≡ a * countWhere p l + b * countWhere q l
+  unfolding sumOf countWhere
+  sum-counts p q a b h [] = omega arith
+  sum-counts p q a b h (x ∷ l) =
+      rw (h x, sum-counts p q a b h l, mul-add a (cond (p x) 1 0) (countWhere p l), mul-add b (cond (q x) 1 0) (countWhere q l), if-passed a (p x), if-passed b (q x)) (omega arith)
+    where
+      if-passed : (k : ℕ) (t : Bool) → k * cond t 1 0 ≡ cond t k 0
+      if-passed k true = mul-one k
+      if-passed k false = mul-zero k
 
 -- ---- the images of the elements under a function
 
