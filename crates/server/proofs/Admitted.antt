@@ -55,9 +55,9 @@ produce-keeps s p n name pid epoch position sequence payload r =
 -- ---- what every call keeps
 
 -- the reserves stand
-record Reserves (s : Server) : Type 0 where
-  of-log : Reserved (s .coordinator)
-  of-words : PartitionReserved (s .partition)
+pub record Reserves (s : Server) : Type 0 where
+  pub of-log : Reserved (s .coordinator)
+  pub of-words : PartitionReserved (s .partition)
 
 -- the buffers have the lengths that were recorded
 record Own (s : Server) : Type 0 where
@@ -129,14 +129,14 @@ call-keeps (readCall from) s r =
 -- ---- another length
 
 module _ (text log : List ℕ) (n : ℕ) (epoch first last : ℤ) (words out : List ℕ) where
-  opened-reserves : Reserves (openedWith text log n epoch first last words out)
+  pub opened-reserves : Reserves (openedWith text log n epoch first last words out)
   opened-reserves = record { of-log = opening-reserved text log n epoch first last; of-words = opened-reserved (length words) }
 
   opened-own : openReply (opening text log n epoch first last .answer) .number ≡ 0 → Own (openedWith text log n epoch first last words out)
   opened-own e =
       record { of-log = sym (opening-room text log n epoch first last (sym (open-number text log n epoch first last) ∙ e)); of-words = opened-room (length words) }
 
-each-reserves : (xs : List Next) (s : Server) → Reserves s → Reserves (afterEach xs s)
+pub each-reserves : (xs : List Next) (s : Server) → Reserves s → Reserves (afterEach xs s)
 unfolding afterEach
 each-reserves [] s r = r
 each-reserves (makes c ∷ xs) s r = each-reserves xs (afterCall c s) (call-keeps c s r .reserves)
@@ -177,14 +177,14 @@ decided : {A B : Type 0} (number : A → ℕ) (refused : ℕ → A) (nothing : B
     → ⊥
 decided number refused nothing tests d done same m e = not-8 tests m (sym (unless-number number (firstRefusal tests) refused nothing d done (same (firstRefusal tests))) ∙ e)
 
--- a call that has no test of 8
-without : (c : Call) (s : Server) → among 8 (0 ∷ refusalsOf c) ≡ false → answerOf c s .number ≡ 8 → ⊥
-without c s m e = true≢false (sym (demand-1 .numbered c s) ∙ ap (λ (n : ℕ). among n (0 ∷ refusalsOf c)) e ∙ m)
+-- a call that has no test of a number
+pub without : (k : ℕ) (c : Call) (s : Server) → among k (0 ∷ refusalsOf c) ≡ false → answerOf c s .number ≡ k → ⊥
+without k c s m e = true≢false (sym (demand-1 .numbered c s) ∙ ap (λ (n : ℕ). among n (0 ∷ refusalsOf c)) e ∙ m)
 
 never-8 : (c : Call) (s : Server) → Reserves s → Own s → answerOf c s .number ≡ 8 → ⊥
 unfolding among numbersOf init initTests initRowTests add addTests addRowTests end endTests endRowTests tick tickTests ack ackTests ackRowTests produce produceTests produceRowTests marker markerTests readTests
-never-8 (openLog text n epoch first last) s r o e = without (openLog text n epoch first last) s refl e
-never-8 openWords s r o e = without openWords s refl e
+never-8 (openLog text n epoch first last) s r o e = without 8 (openLog text n epoch first last) s refl e
+never-8 openWords s r o e = without 8 openWords s refl e
 never-8 (call (initCall name timeout time)) s r o e =
     decided (λ (a : InitAnswer). initReply a .number) InitRefused keep (initTests (s .coordinator) (length (s .log)) name timeout time) _ (init-done (s .coordinator) name timeout time) (λ k. refl) (log-admitted s r o, refl) e
 never-8 (call (addCall name pid epoch set time)) s r o e =
@@ -193,8 +193,8 @@ never-8 (call (endCall name pid epoch verdict time)) s r o e =
     decided (λ (a : Answer). reply a .number) Refused keep (endTests (s .coordinator) (length (s .log)) name pid epoch verdict) _ refl (λ k. refl) (log-admitted s r o, refl) e
 never-8 (call (tickCall time)) s r o e =
     decided (λ (a : TickAnswer). tickReply a .number) TickRefused keep (tickTests (s .coordinator) (length (s .log))) _ (tick-done (s .coordinator) time) (λ k. refl) (log-admitted s r o, refl) e
-never-8 (call (flushCall n)) s r o e = without (call (flushCall n)) s refl e
-never-8 (orderCall up) s r o e = without (orderCall up) s refl e
+never-8 (call (flushCall n)) s r o e = without 8 (call (flushCall n)) s refl e
+never-8 (orderCall up) s r o e = without 8 (orderCall up) s refl e
 never-8 (call (ackCall place pid epoch position)) s r o e =
     decided (λ (a : Answer). reply a .number) Refused keep (ackTests (s .coordinator) (length (s .log)) place pid epoch position) _ refl (λ k. refl) (log-admitted s r o, refl) e
 never-8 (produceCall name pid epoch position sequence payload) s r o e =

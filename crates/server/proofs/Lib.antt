@@ -3,4 +3,5 @@ pub mod ProduceCases
 pub mod Lines
 pub mod Demand1
 pub mod Admitted
+pub mod RoomToEnd
 mod ProduceSteps

@@ -4,3 +4,4 @@ pub mod Calls
 pub mod Lines
 pub mod Demand1
 pub mod Admitted
+pub mod RoomToEnd
