@@ -3,6 +3,7 @@ use Prim.Native.Nat.{ℕ}
 use mathlib.Core.List.{List, [], _∷_, _++_, map}
 use lib.IntN.{ℤ, pos}
 use Rattle.numbers.specs.Ascii.{ascii}
+use Rattle.record.specs.Longest.{widestText}
 use Rattle.record.specs.declared.Status.{Status}
 use Rattle.record.specs.declared.Status.the-variants.{Begin, PrepareCommit}
 use Rattle.row.specs.Row.{withEnd}
@@ -20,12 +21,6 @@ use Rattle.examples.specs.Starts.{record7, from, addAt, endAt, ackAt, ti
 -- an opening of the empty log under a text
 abbrev pub under : List ℕ → Call
 under text = openLog text 0 (pos 1) (pos 1000) (pos 1999)
-
--- "1 to 8 lines", "one digit 1 to 8", "1 to 16 bytes of letters, digits, `.`, `_`, `-`": the most of each, and every byte
-abbrev pub widestText : List ℕ
-widestText =
-    ascii "abcdefghijklmnop\t8\nqrstuvwxyzABCDEF\t8\nGHIJKLMNOPQRSTUV\t8\nWXYZ0123456789._\t8\n"
-    ++ ascii "----------------\t8\n---------------.\t8\n...............-\t8\n________________\t8\n"
 
 -- a text that is refused with 5
 abbrev pub noCatalogue : List ℕ → Line
