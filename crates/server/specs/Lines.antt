@@ -1,4 +1,4 @@
--- The table to be proved, T1 to T12: for each line the calls that lead to it, and what document 01 says of the last one.
+-- The table to be proved, T1 to T12: for each line the calls that lead to it, and what document 01 says of the last one; of T4 and T5 document 02.
 use Prim.Native.Nat.{ℕ, _-_, _*_}
 use mathlib.Core.List.{List, [], _∷_}
 use lib.IntN.{ℤ, pos}
@@ -181,10 +181,10 @@ lines =
     line 2048 0 (opened ∷ []) (init7 (pos 60000)) 0 (pos 1000 ∷ pos 0 ∷ []) 1 53 ∷
     -- "T3 with `scan` 0 joined: 67."
     line 2048 0 (opened ∷ init7 (pos 60000) ∷ call (flushCall 53) ∷ []) join 0 [] 1 67 ∷
-    -- "T4 log buffer 1,079: first Init of `rig7` accepted"
-    line 1079 0 (opened ∷ []) (init7 (pos 60000)) 0 (pos 1000 ∷ pos 0 ∷ []) 1 53 ∷
-    -- "T5 1,078: 17."
-    line 1078 0 (opened ∷ []) (init7 (pos 60000)) 17 [] 0 0 ∷
+    -- T4: "first Init of `rig7` accepted"; document 02, 1: "T4 and T5 1,143 and 1,142"
+    line 1143 0 (opened ∷ []) (init7 (pos 60000)) 0 (pos 1000 ∷ pos 0 ∷ []) 1 53 ∷
+    -- T5: "17."
+    line 1142 0 (opened ∷ []) (init7 (pos 60000)) 17 [] 0 0 ∷
     -- "T6 timeout 900000 accepted"
     line 2048 0 (opened ∷ []) (init7 (pos 900000)) 0 (pos 1000 ∷ pos 0 ∷ []) 1 53 ∷
     -- "T7 900001: 2."
