@@ -104,11 +104,11 @@ epochLines =
     from (rigTable CompleteAbort 32765 0) noProducer [] (initAt 50 110) 0 (pos 1000 ∷ pos 32766 ∷ []) 1 53 ∷
     from (rigTable CompleteCommit 32765 0) noProducer [] (initAt 50 110) 0 (pos 1000 ∷ pos 32766 ∷ []) 1 53 ∷
     -- in BEGIN no pid is needed: with the pids spent, at 32766 and at 0, and with the reserve alone left
-    lineFrom (tight (beginTable 32766) 1079) [] (initAt 70 100) 0 [] 1 67 ∷
-    lineFrom (tight (beginTable 0) 1079) [] (initAt 70 100) 0 [] 1 67 ∷
+    lineFrom (tight (beginTable 32766) 1143) [] (initAt 70 100) 0 [] 1 67 ∷
+    lineFrom (tight (beginTable 0) 1143) [] (initAt 70 100) 0 [] 1 67 ∷
     -- nor for a held epoch below 32766; from there on it is 16
-    lineFrom (tight (rigTable Empty 32765 0) 1132) [] (initAt 70 100) 0 (pos 1000 ∷ pos 32766 ∷ []) 1 53 ∷
-    lineFrom (tight (rigTable Empty 32766 0) 1132) [] (initAt 70 100) 16 [] 1 0 ∷
+    lineFrom (tight (rigTable Empty 32765 0) 1196) [] (initAt 70 100) 0 (pos 1000 ∷ pos 32766 ∷ []) 1 53 ∷
+    lineFrom (tight (rigTable Empty 32766 0) 1196) [] (initAt 70 100) 16 [] 1 0 ∷
     []
 
 -- what is held after each step; where the log is opened again it is the same
@@ -147,9 +147,9 @@ epochHeld =
     tableHeld7 (beginTable 32766) commitsLast 32766 60000 4 0 100 (negsuc 0) 0 100 ∷
     tableHeld7 (beginTable 32765) (initAt 70 100 ∷ []) 32766 60000 3 1 100 (pos 80) 0 100 ∷
     tableHeld7 (rigTable CompleteAbort 32766 0) (addAt 32766 2 100 ∷ []) 32766 60000 1 2 100 (pos 100) 0 100 ∷
-    heldFrom (tight (beginTable 32766) 1079) (initAt 70 100 ∷ []) 0 1000 32767 60000 3 1 100 (pos 80) 0 100 ∷
+    heldFrom (tight (beginTable 32766) 1143) (initAt 70 100 ∷ []) 0 1000 32767 60000 3 1 100 (pos 80) 0 100 ∷
     -- "same pid and epoch one higher while the held epoch is below 32766": 32765, with the pids spent
-    heldFrom (tight (rigTable Empty 32765 0) 1132) (initAt 70 100 ∷ []) 0 1000 32766 70 0 0 100 (negsuc 0) 0 100 ∷
+    heldFrom (tight (rigTable Empty 32765 0) 1196) (initAt 70 100 ∷ []) 0 1000 32766 70 0 0 100 (negsuc 0) 0 100 ∷
     -- "else a pid above all earlier ones with epoch 0": 32766, and 32767 after the fence
     heldFrom (holding (rigTable CompleteCommit 32766 0) noProducer) (initAt 70 100 ∷ []) 0 1001 0 70 0 0 100 (negsuc 0) 0 100 ∷
     heldFrom (holding (beginTable 32766) noProducer) (abortsLast ++ (initAt 70 60100 ∷ [])) 0 1001 0 70 0 0 60100 (negsuc 0) 0 60100 ∷

@@ -65,28 +65,28 @@ openingLines =
     line 2560 0 (holds7 ++ (openLog catalogueText 53 (pos 2) (pos 5) (pos 1999) ∷ [])) init3 0 (pos 1001 ∷ pos 0 ∷ []) 2 53 ∷
     line 2560 0 (holds7 ++ (openLog catalogueText 53 (pos 2) (pos 1500) (pos 1999) ∷ [])) init3 0 (pos 1500 ∷ pos 0 ∷ []) 2 53 ∷
     line 2560 0 holds7 (openLog catalogueText 53 (pos 2) (pos 5) (pos 7)) 0 [] 1 0 ∷
-    -- "opening needs 1,026 for each BEGIN and 513 for each prepare"
-    opens 1026 (empty7 ∷ begin7 ∷ []) 0 [] 1 120 ∷
-    opens 513 (empty7 ∷ begin7 ∷ record7 PrepareCommit 0 1 110 100 ∷ []) 0 [] 1 187 ∷
-    opens 513 (empty7 ∷ begin7 ∷ record7 PrepareAbort 1 1 110 100 ∷ []) 0 [] 1 187 ∷
-    opens 1539 (empty7 ∷ begin7 ∷ record7 PrepareCommit 0 1 110 100 ∷ recordFor lab3 1001 0 50 Empty 0 110 0 ∷ recordFor lab3 1001 0 50 Begin 256 110 110 ∷ []) 0 [] 2 307 ∷
+    -- 17, document 02, 1: "1,090 for each id or BEGIN and 545 for each prepare"
+    opens 1090 (empty7 ∷ begin7 ∷ []) 0 [] 1 120 ∷
+    opens 545 (empty7 ∷ begin7 ∷ record7 PrepareCommit 0 1 110 100 ∷ []) 0 [] 1 187 ∷
+    opens 545 (empty7 ∷ begin7 ∷ record7 PrepareAbort 1 1 110 100 ∷ []) 0 [] 1 187 ∷
+    opens 1635 (empty7 ∷ begin7 ∷ record7 PrepareCommit 0 1 110 100 ∷ recordFor lab3 1001 0 50 Empty 0 110 0 ∷ recordFor lab3 1001 0 50 Begin 256 110 110 ∷ []) 0 [] 2 307 ∷
     opens 0 (empty7 ∷ begin7 ∷ record7 PrepareCommit 0 1 110 100 ∷ record7 CompleteCommit 0 0 110 0 ∷ []) 0 [] 1 240 ∷
     -- "Succession": a log of every step opens; "or 3 with epoch equal or one higher"
-    opens 1026 (empty7 ∷ begin7 ∷ record7 Begin 0 257 110 100 ∷ record7 PrepareCommit 0 257 120 100 ∷ record7 CompleteCommit 0 0 130 0 ∷ record7 Begin 0 2 140 140 ∷ []) 0 [] 1 402 ∷
-    opens 1026 (empty7 ∷ begin7 ∷ record7 PrepareAbort 0 1 120 100 ∷ record7 CompleteAbort 0 0 130 0 ∷ record7 Empty 1 0 140 0 ∷ record7 Empty 2 0 140 0 ∷ []) 0 [] 1 346 ∷
-    opens 1026 (empty7 ∷ begin7 ∷ record7 PrepareAbort 1 1 120 100 ∷ record7 CompleteAbort 1 0 130 0 ∷ record7 Begin 1 1 140 140 ∷ []) 0 [] 1 307 ∷
+    opens 1090 (empty7 ∷ begin7 ∷ record7 Begin 0 257 110 100 ∷ record7 PrepareCommit 0 257 120 100 ∷ record7 CompleteCommit 0 0 130 0 ∷ record7 Begin 0 2 140 140 ∷ []) 0 [] 1 402 ∷
+    opens 1090 (empty7 ∷ begin7 ∷ record7 PrepareAbort 0 1 120 100 ∷ record7 CompleteAbort 0 0 130 0 ∷ record7 Empty 1 0 140 0 ∷ record7 Empty 2 0 140 0 ∷ []) 0 [] 1 346 ∷
+    opens 1090 (empty7 ∷ begin7 ∷ record7 PrepareAbort 1 1 120 100 ∷ record7 CompleteAbort 1 0 130 0 ∷ record7 Begin 1 1 140 140 ∷ []) 0 [] 1 307 ∷
     -- "Only status 0 changes the timeout"
-    opens 1026 (empty7 ∷ recordFor rig7 1000 1 50 Empty 0 100 0 ∷ []) 0 [] 1 106 ∷
+    opens 1090 (empty7 ∷ recordFor rig7 1000 1 50 Empty 0 100 0 ∷ []) 0 [] 1 106 ∷
     -- "pid above all earlier ones": with a gap too
-    opens 1026 (empty7 ∷ recordFor lab3 5000 0 60000 Empty 0 100 0 ∷ []) 0 [] 2 106 ∷
+    opens 1090 (empty7 ∷ recordFor lab3 5000 0 60000 Empty 0 100 0 ∷ []) 0 [] 2 106 ∷
     []
 
 -- Init
 abbrev pub initLines : List Line
 initLines =
-    -- "An id's name is 1 to 32 bytes, each 33 to 126."
+    -- "each 33 to 126"; document 02, 1: "Names … run to 64 bytes."
     line 2560 0 (opened ∷ []) (call (initCall (33 ∷ []) (pos 1) (pos 100))) 0 (pos 1000 ∷ pos 0 ∷ []) 1 50 ∷
-    line 2560 0 (opened ∷ []) (call (initCall (replicate 32 126) (pos 1) (pos 100))) 0 (pos 1000 ∷ pos 0 ∷ []) 1 81 ∷
+    line 2560 0 (opened ∷ []) (call (initCall (replicate 64 126) (pos 1) (pos 100))) 0 (pos 1000 ∷ pos 0 ∷ []) 1 113 ∷
     -- a second name gets the next pid, and need not wait for the first; a refused Init uses up no pid
     line 2560 0 (opened ∷ init7 (pos 50) ∷ []) init3 0 (pos 1001 ∷ pos 0 ∷ []) 2 53 ∷
     line 2560 0 (opened ∷ init7 (pos 0) ∷ []) init3 0 (pos 1000 ∷ pos 0 ∷ []) 1 53 ∷
@@ -113,10 +113,10 @@ initLines =
     line 2560 0 (begins (pos 50) ++ (init7 (pos 70) ∷ [])) (reopened 187) 0 [] 1 0 ∷
     line 2560 0 (begins (pos 50) ++ (init7 (pos 70) ∷ call (flushCall 187) ∷ [])) (end7 1) 11 [] 1 0 ∷
     -- "17: Init (outside status 1) …": with the reserve alone left, Init in status 1 is accepted
-    line 1146 0 (begins (pos 50)) (init7 (pos 50)) 0 [] 1 67 ∷
-    -- "need 1,026 bytes left after their record for each id then held": of a held name, and of a second one
-    line 1132 0 holds7 (init7 (pos 50)) 0 (pos 1000 ∷ pos 1 ∷ []) 1 53 ∷
-    line 2158 0 holds7 init3 0 (pos 1001 ∷ pos 0 ∷ []) 2 53 ∷
+    line 1210 0 (begins (pos 50)) (init7 (pos 50)) 0 [] 1 67 ∷
+    -- "bytes left after their record for each id then held", by document 02, 1, "1,090 for each id": of a held name, and of a second one
+    line 1196 0 holds7 (init7 (pos 50)) 0 (pos 1000 ∷ pos 1 ∷ []) 1 53 ∷
+    line 2286 0 holds7 init3 0 (pos 1001 ∷ pos 0 ∷ []) 2 53 ∷
     []
 
 -- Add
@@ -146,11 +146,11 @@ addLines =
     line 2560 0 (begins (pos 50) ++ (call (addCall rig7 (pos 1000) (pos 0) 1 (pos 1000)) ∷ [])) (call (tickCall (pos 0))) 0 (pos 0 ∷ []) 1 67 ∷
     -- "epoch at most 32766": 32766 may begin
     from (rigTable CompleteAbort 32766 0) noProducer [] (call (addCall rig7 (pos 1000) (pos 32766) 1 (pos 100))) 0 [] 1 67 ∷
-    -- "an Add that appends need[s] 1,026 bytes left after [its] record for each id then held"; one that appends nothing needs none
-    line 1146 0 holds7 join 0 [] 1 67 ∷
-    line 1146 0 (begins (pos 50)) (add7 1) 0 [] 1 0 ∷
-    line 1227 0 (begins (pos 50)) (add7 256) 0 [] 1 81 ∷
-    line 2225 0 holdsBoth join 0 [] 2 67 ∷
+    -- the same of "an Add that appends"; one that appends nothing needs none
+    line 1210 0 holds7 join 0 [] 1 67 ∷
+    line 1210 0 (begins (pos 50)) (add7 1) 0 [] 1 0 ∷
+    line 1291 0 (begins (pos 50)) (add7 256) 0 [] 1 81 ∷
+    line 2353 0 holdsBoth join 0 [] 2 67 ∷
     []
 
 -- End
@@ -162,7 +162,7 @@ endLines =
     -- the epoch is kept in both
     line 2560 8 (prepares 1) (orderCall 257) 0 (pos 0 ∷ pos 1000 ∷ pos 0 ∷ pos 1 ∷ pos 0 ∷ pos 1 ∷ []) 1 0 ∷
     -- the prepare needs no more than the reserve
-    line 1146 0 (begins (pos 50)) (end7 0) 0 [] 1 67 ∷
+    line 1210 0 (begins (pos 50)) (end7 0) 0 [] 1 67 ∷
     -- "Status 4 or 5 of that verdict: done, nothing appended."
     line 2560 8 (completes 1) (end7 1) 0 [] 1 0 ∷
     -- done moves the clock: the other name's BEGIN at 120 is overdue at 1000
@@ -192,7 +192,7 @@ tickLines =
     -- "The clock is the greater of its old value and the time given": after 151 a negative time is 151
     line 2560 0 (holds7 ++ (join ∷ call (tickCall (pos 151)) ∷ call (flushCall 120) ∷ [])) (call (tickCall (negsuc 99))) 0 (pos 0 ∷ []) 1 67 ∷
     -- the prepare needs no more than the reserve
-    line 1146 0 (begins (pos 50)) (call (tickCall (pos 151))) 0 (pos 0 ∷ []) 1 67 ∷
+    line 1210 0 (begins (pos 50)) (call (tickCall (pos 151))) 0 (pos 0 ∷ []) 1 67 ∷
     []
 
 -- Flush

@@ -9,6 +9,7 @@ pub mod SetLines
 pub mod PidLines
 pub mod PartitionLines
 pub mod LimitLines
+pub mod NameLines
 pub mod Themes
 pub mod SuccessionLines
 pub mod BytesLines

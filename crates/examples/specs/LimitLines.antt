@@ -69,13 +69,13 @@ restOf bytes number results =
     lineFrom (record { coordinator = blankState; log = bytes; partition = openPartition 0; words = []; out = [] }) []
     (openLog catalogueText 8 (pos 1) (pos 1000) (pos 1999)) number results 0 0
 
--- "Lengths outside 5..36 and 37..469 are refusal 6, tested before the frame's end."
+-- "Lengths outside 5..36 and 37..469 are refusal 6, tested before the frame's end."; document 02, 1: "The key length limit becomes 68"
 abbrev pub restLengths : List Line
 restLengths =
     restOf (0 ∷ 0 ∷ 0 ∷ 5 ∷ 0 ∷ 0 ∷ 0 ∷ 37 ∷ []) 0 [] ∷
-    restOf (0 ∷ 0 ∷ 0 ∷ 36 ∷ 0 ∷ 0 ∷ 1 ∷ 213 ∷ []) 0 [] ∷
+    restOf (0 ∷ 0 ∷ 0 ∷ 68 ∷ 0 ∷ 0 ∷ 1 ∷ 213 ∷ []) 0 [] ∷
     restOf (0 ∷ 0 ∷ 0 ∷ 4 ∷ 0 ∷ 0 ∷ 0 ∷ 37 ∷ []) 6 (pos 0 ∷ []) ∷
-    restOf (0 ∷ 0 ∷ 0 ∷ 37 ∷ 0 ∷ 0 ∷ 0 ∷ 37 ∷ []) 6 (pos 0 ∷ []) ∷
+    restOf (0 ∷ 0 ∷ 0 ∷ 69 ∷ 0 ∷ 0 ∷ 0 ∷ 37 ∷ []) 6 (pos 0 ∷ []) ∷
     restOf (0 ∷ 0 ∷ 0 ∷ 5 ∷ 0 ∷ 0 ∷ 0 ∷ 36 ∷ []) 6 (pos 0 ∷ []) ∷
     restOf (0 ∷ 0 ∷ 0 ∷ 5 ∷ 0 ∷ 0 ∷ 1 ∷ 214 ∷ []) 6 (pos 0 ∷ []) ∷
     restOf (255 ∷ 255 ∷ 255 ∷ 255 ∷ 0 ∷ 0 ∷ 0 ∷ 37 ∷ []) 6 (pos 0 ∷ []) ∷

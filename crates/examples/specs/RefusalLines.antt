@@ -40,46 +40,49 @@ openingRefusals =
     line 2560 0 [] (openLog catalogueText 2560 (pos 1) (pos 1000) (pos 999)) 6 (pos 0 ∷ []) 0 0 ∷
     -- "with the offset of the first bad frame": in the second 17 would apply too
     line 2560 0 (opened ∷ init7 (pos 50) ∷ []) (reopened 61) 6 (pos 53 ∷ []) 1 0 ∷
-    lineFrom (lentLog 1025 (empty7 ∷ begin7 ∷ [])) [] (reopened 128) 6 (pos 120 ∷ []) 0 0 ∷
+    lineFrom (lentLog 1089 (empty7 ∷ begin7 ∷ [])) [] (reopened 128) 6 (pos 120 ∷ []) 0 0 ∷
     -- "first: status 0, epoch 0, pid above all earlier ones"
-    opens 1026 (begin7 ∷ []) 6 (pos 0 ∷ []) 0 0 ∷
-    opens 1026 (record7 Empty 1 0 100 0 ∷ []) 6 (pos 0 ∷ []) 0 0 ∷
-    opens 1026 (empty7 ∷ recordFor lab3 1000 0 60000 Empty 0 100 0 ∷ []) 6 (pos 53 ∷ []) 0 0 ∷
+    opens 1090 (begin7 ∷ []) 6 (pos 0 ∷ []) 0 0 ∷
+    opens 1090 (record7 Empty 1 0 100 0 ∷ []) 6 (pos 0 ∷ []) 0 0 ∷
+    opens 1090 (empty7 ∷ recordFor lab3 1000 0 60000 Empty 0 100 0 ∷ []) 6 (pos 53 ∷ []) 0 0 ∷
     -- "after 0, 4, 5: status 0 (same pid and epoch one higher …)"
-    opens 1026 (empty7 ∷ empty7 ∷ []) 6 (pos 53 ∷ []) 0 0 ∷
-    opens 1026 (empty7 ∷ record7 Empty 2 0 100 0 ∷ []) 6 (pos 53 ∷ []) 0 0 ∷
-    opens 1026 (empty7 ∷ recordFor rig7 1001 0 60000 Empty 0 100 0 ∷ []) 6 (pos 53 ∷ []) 0 0 ∷
+    opens 1090 (empty7 ∷ empty7 ∷ []) 6 (pos 53 ∷ []) 0 0 ∷
+    opens 1090 (empty7 ∷ record7 Empty 2 0 100 0 ∷ []) 6 (pos 53 ∷ []) 0 0 ∷
+    opens 1090 (empty7 ∷ recordFor rig7 1001 0 60000 Empty 0 100 0 ∷ []) 6 (pos 53 ∷ []) 0 0 ∷
     -- "or status 1 (same pid and epoch, …, start equal to last update)", no other, and the timeout held
-    opens 1026 (empty7 ∷ recordFor rig7 1001 0 60000 Begin 1 100 100 ∷ []) 6 (pos 53 ∷ []) 0 0 ∷
-    opens 1026 (empty7 ∷ record7 Begin 1 1 100 100 ∷ []) 6 (pos 53 ∷ []) 0 0 ∷
-    opens 1026 (empty7 ∷ record7 Begin 0 1 110 100 ∷ []) 6 (pos 53 ∷ []) 0 0 ∷
-    opens 1026 (empty7 ∷ recordFor rig7 1000 0 50 Begin 1 100 100 ∷ []) 6 (pos 53 ∷ []) 0 0 ∷
-    opens 1026 (empty7 ∷ record7 PrepareCommit 0 1 100 100 ∷ []) 6 (pos 53 ∷ []) 0 0 ∷
+    opens 1090 (empty7 ∷ recordFor rig7 1001 0 60000 Begin 1 100 100 ∷ []) 6 (pos 53 ∷ []) 0 0 ∷
+    opens 1090 (empty7 ∷ record7 Begin 1 1 100 100 ∷ []) 6 (pos 53 ∷ []) 0 0 ∷
+    opens 1090 (empty7 ∷ record7 Begin 0 1 110 100 ∷ []) 6 (pos 53 ∷ []) 0 0 ∷
+    opens 1090 (empty7 ∷ recordFor rig7 1000 0 50 Begin 1 100 100 ∷ []) 6 (pos 53 ∷ []) 0 0 ∷
+    opens 1090 (empty7 ∷ record7 PrepareCommit 0 1 100 100 ∷ []) 6 (pos 53 ∷ []) 0 0 ∷
     -- "after 1: status 1 with all its partitions and more; 2; or 3 with epoch equal or one higher; pid and start kept, …; set kept in 2 and 3"
-    opens 1026 (empty7 ∷ begin7 ∷ record7 Begin 0 1 110 100 ∷ []) 6 (pos 120 ∷ []) 0 0 ∷
-    opens 1026 (empty7 ∷ begin7 ∷ record7 Begin 0 2 110 100 ∷ []) 6 (pos 120 ∷ []) 0 0 ∷
-    opens 1026 (empty7 ∷ begin7 ∷ record7 Begin 0 3 110 110 ∷ []) 6 (pos 120 ∷ []) 0 0 ∷
-    opens 1026 (empty7 ∷ begin7 ∷ record7 PrepareCommit 1 1 110 100 ∷ []) 6 (pos 120 ∷ []) 0 0 ∷
-    opens 1026 (empty7 ∷ begin7 ∷ record7 PrepareAbort 2 1 110 100 ∷ []) 6 (pos 120 ∷ []) 0 0 ∷
-    opens 1026 (empty7 ∷ begin7 ∷ record7 PrepareCommit 0 3 110 100 ∷ []) 6 (pos 120 ∷ []) 0 0 ∷
-    opens 1026 (empty7 ∷ begin7 ∷ record7 CompleteCommit 0 0 110 0 ∷ []) 6 (pos 120 ∷ []) 0 0 ∷
+    opens 1090 (empty7 ∷ begin7 ∷ record7 Begin 0 1 110 100 ∷ []) 6 (pos 120 ∷ []) 0 0 ∷
+    opens 1090 (empty7 ∷ begin7 ∷ record7 Begin 0 2 110 100 ∷ []) 6 (pos 120 ∷ []) 0 0 ∷
+    opens 1090 (empty7 ∷ begin7 ∷ record7 Begin 0 3 110 110 ∷ []) 6 (pos 120 ∷ []) 0 0 ∷
+    opens 1090 (empty7 ∷ begin7 ∷ record7 PrepareCommit 1 1 110 100 ∷ []) 6 (pos 120 ∷ []) 0 0 ∷
+    opens 1090 (empty7 ∷ begin7 ∷ record7 PrepareAbort 2 1 110 100 ∷ []) 6 (pos 120 ∷ []) 0 0 ∷
+    opens 1090 (empty7 ∷ begin7 ∷ record7 PrepareCommit 0 3 110 100 ∷ []) 6 (pos 120 ∷ []) 0 0 ∷
+    opens 1090 (empty7 ∷ begin7 ∷ record7 CompleteCommit 0 0 110 0 ∷ []) 6 (pos 120 ∷ []) 0 0 ∷
     -- "after 2: 4. After 3: 5. Pid and epoch kept."
-    opens 1026 (empty7 ∷ begin7 ∷ record7 PrepareCommit 0 1 110 100 ∷ record7 CompleteAbort 0 0 110 0 ∷ []) 6 (pos 187 ∷ []) 0 0 ∷
-    opens 1026 (empty7 ∷ begin7 ∷ record7 PrepareAbort 0 1 110 100 ∷ record7 CompleteCommit 0 0 110 0 ∷ []) 6 (pos 187 ∷ []) 0 0 ∷
-    opens 1026 (empty7 ∷ begin7 ∷ record7 PrepareAbort 0 1 110 100 ∷ record7 CompleteAbort 1 0 110 0 ∷ []) 6 (pos 187 ∷ []) 0 0 ∷
+    opens 1090 (empty7 ∷ begin7 ∷ record7 PrepareCommit 0 1 110 100 ∷ record7 CompleteAbort 0 0 110 0 ∷ []) 6 (pos 187 ∷ []) 0 0 ∷
+    opens 1090 (empty7 ∷ begin7 ∷ record7 PrepareAbort 0 1 110 100 ∷ record7 CompleteCommit 0 0 110 0 ∷ []) 6 (pos 187 ∷ []) 0 0 ∷
+    opens 1090 (empty7 ∷ begin7 ∷ record7 PrepareAbort 0 1 110 100 ∷ record7 CompleteAbort 1 0 110 0 ∷ []) 6 (pos 187 ∷ []) 0 0 ∷
     -- "Last updates … never fall along the log."
-    opens 1026 (empty7 ∷ recordFor lab3 1001 0 60000 Empty 0 99 0 ∷ []) 6 (pos 53 ∷ []) 0 0 ∷
+    opens 1090 (empty7 ∷ recordFor lab3 1001 0 60000 Empty 0 99 0 ∷ []) 6 (pos 53 ∷ []) 0 0 ∷
     -- "more than 32 names too": the 33rd frame is bad
     opens 0 (emptyRecords 33 33) 6 (pos 1600 ∷ []) 0 0 ∷
     -- "7 … a negative coordinator epoch or first pid, last below first": 17 would apply too
-    lineFrom (lentLog 1025 (empty7 ∷ begin7 ∷ [])) [] (openLog catalogueText 120 (negsuc 0) (pos 1000) (pos 1999)) 7 [] 0 0 ∷
-    lineFrom (lentLog 1025 (empty7 ∷ begin7 ∷ [])) [] (openLog catalogueText 120 (pos 1) (negsuc 0) (pos 1999)) 7 [] 0 0 ∷
-    lineFrom (lentLog 1025 (empty7 ∷ begin7 ∷ [])) [] (openLog catalogueText 120 (pos 1) (pos 1000) (pos 999)) 7 [] 0 0 ∷
-    -- "17: … opening needs 1,026 for each BEGIN and 513 for each prepare"
-    opens 1025 (empty7 ∷ begin7 ∷ []) 17 [] 0 0 ∷
-    opens 512 (empty7 ∷ begin7 ∷ record7 PrepareCommit 0 1 110 100 ∷ []) 17 [] 0 0 ∷
-    opens 512 (empty7 ∷ begin7 ∷ record7 PrepareAbort 1 1 110 100 ∷ []) 17 [] 0 0 ∷
-    opens 1538 (empty7 ∷ begin7 ∷ record7 PrepareCommit 0 1 110 100 ∷ recordFor lab3 1001 0 50 Empty 0 110 0 ∷ recordFor lab3 1001 0 50 Begin 256 110 110 ∷ []) 17 [] 0 0 ∷
+    lineFrom (lentLog 1089 (empty7 ∷ begin7 ∷ [])) [] (openLog catalogueText 120 (negsuc 0) (pos 1000) (pos 1999)) 7 [] 0 0 ∷
+    lineFrom (lentLog 1089 (empty7 ∷ begin7 ∷ [])) [] (openLog catalogueText 120 (pos 1) (negsuc 0) (pos 1999)) 7 [] 0 0 ∷
+    lineFrom (lentLog 1089 (empty7 ∷ begin7 ∷ [])) [] (openLog catalogueText 120 (pos 1) (pos 1000) (pos 999)) 7 [] 0 0 ∷
+    -- 17, document 02, 1: "1,090 for each id or BEGIN and 545 for each prepare"
+    opens 1089 (empty7 ∷ begin7 ∷ []) 17 [] 0 0 ∷
+    opens 544 (empty7 ∷ begin7 ∷ record7 PrepareCommit 0 1 110 100 ∷ []) 17 [] 0 0 ∷
+    opens 544 (empty7 ∷ begin7 ∷ record7 PrepareAbort 1 1 110 100 ∷ []) 17 [] 0 0 ∷
+    opens 1634 (empty7 ∷ begin7 ∷ record7 PrepareCommit 0 1 110 100 ∷ recordFor lab3 1001 0 50 Empty 0 110 0 ∷ recordFor lab3 1001 0 50 Begin 256 110 110 ∷ []) 17 [] 0 0 ∷
+    -- "Older logs open if their buffer meets the larger reserve.": in buffers that met 1,026 for a BEGIN and 513 for a prepare alone they do not
+    opens 1026 (empty7 ∷ begin7 ∷ []) 17 [] 0 0 ∷
+    opens 513 (empty7 ∷ begin7 ∷ record7 PrepareCommit 0 1 110 100 ∷ []) 17 [] 0 0 ∷
     []
 
 -- Init
@@ -89,11 +92,11 @@ initRefusals =
     lineFrom (lending 2559 40 emptyTable noProducer) [] (call (initCall [] (pos 0) (pos 100))) 8 [] 0 0 ∷
     lineFrom (lending 2561 40 emptyTable noProducer) [] (call (initCall [] (pos 0) (pos 100))) 8 [] 0 0 ∷
     -- nor is a state admitted that no call has made: one without its reserve, or without an opening
-    lineFrom (tight (rigTable Begin 0 1) 1078) [] (init7 (pos 50)) 8 [] 1 0 ∷
+    lineFrom (tight (rigTable Begin 0 1) 1142) [] (init7 (pos 50)) 8 [] 1 0 ∷
     line 2560 0 [] (init7 (pos 50)) 8 [] 0 0 ∷
-    -- "1 name": 1 to 32 bytes, each 33 to 126; 2 would apply too
+    -- "1 name": 1 to 64 bytes by document 02, 1, each 33 to 126; 2 would apply too
     line 2560 0 (opened ∷ []) (call (initCall [] (pos 0) (pos 100))) 1 [] 0 0 ∷
-    line 2560 0 (opened ∷ []) (call (initCall (replicate 33 97) (pos 0) (pos 100))) 1 [] 0 0 ∷
+    line 2560 0 (opened ∷ []) (call (initCall (replicate 65 97) (pos 0) (pos 100))) 1 [] 0 0 ∷
     line 2560 0 (opened ∷ []) (call (initCall (ascii "r ") (pos 0) (pos 100))) 1 [] 0 0 ∷
     line 2560 0 (opened ∷ []) (call (initCall (127 ∷ []) (pos 0) (pos 100))) 1 [] 0 0 ∷
     line 2560 0 (opened ∷ []) (call (initCall (114 ∷ 0 ∷ []) (pos 0) (pos 100))) 1 [] 0 0 ∷
@@ -107,25 +110,25 @@ initRefusals =
     line 2560 0 (begins (pos 50) ++ (end7 0 ∷ [])) (init7 (pos 50)) 12 [] 1 0 ∷
     line 2560 0 (begins (pos 50) ++ (end7 1 ∷ [])) (init7 (pos 50)) 12 [] 1 0 ∷
     line 2560 0 (holds7 ++ (join ∷ [])) (init7 (pos 50)) 12 [] 1 0 ∷
-    line 1079 0 (opened ∷ init7 (pos 50) ∷ []) (init7 (pos 50)) 12 [] 1 0 ∷
+    line 1143 0 (opened ∷ init7 (pos 50) ∷ []) (init7 (pos 50)) 12 [] 1 0 ∷
     -- "Status 2, 3: refusal 14.": in the last two 16 and 17 would apply too
     line 2560 8 (prepares 0) (init7 (pos 50)) 14 [] 1 0 ∷
     line 2560 8 (prepares 1) (init7 (pos 50)) 14 [] 1 0 ∷
-    lineFrom (tight (rigTable PrepareCommit 32766 1) 566) [] (init7 (pos 50)) 14 [] 1 0 ∷
-    lineFrom (tight (rigTable PrepareAbort 32767 1) 566) [] (init7 (pos 50)) 14 [] 1 0 ∷
+    lineFrom (tight (rigTable PrepareCommit 32766 1) 598) [] (init7 (pos 50)) 14 [] 1 0 ∷
+    lineFrom (tight (rigTable PrepareAbort 32767 1) 598) [] (init7 (pos 50)) 14 [] 1 0 ∷
     -- "15 a 33rd name": 17 would apply too, and 16 in the second
     from fullTable noProducer [] (init7 (pos 50)) 15 [] 32 0 ∷
     lineFrom (tight fullTable 53) [] (init7 (pos 50)) 15 [] 32 0 ∷
     -- "16 pids spent": of an unknown name, and of a held one that needs a new pid; 17 would apply too
-    line 1079 0 (openLog catalogueText 0 (pos 1) (pos 1000) (pos 1000) ∷ init7 (pos 50) ∷ []) init3 16 [] 1 0 ∷
+    line 1143 0 (openLog catalogueText 0 (pos 1) (pos 1000) (pos 1000) ∷ init7 (pos 50) ∷ []) init3 16 [] 1 0 ∷
     lineFrom (tight (rigTable CompleteAbort 32766 0) 53) [] (init7 (pos 50)) 16 [] 1 0 ∷
     lineFrom (tight (rigTable CompleteAbort 32767 0) 53) [] (init7 (pos 50)) 16 [] 1 0 ∷
     -- a block that is wholly below the pids in the log
     line 2560 0 (holds7 ++ (openLog catalogueText 53 (pos 2) (pos 5) (pos 7) ∷ [])) init3 16 [] 1 0 ∷
-    -- "17: Init (outside status 1) … need[s] 1,026 bytes left after [its] record for each id then held": of an unknown name, a second one, a held one
-    line 1078 0 (opened ∷ []) (init7 (pos 50)) 17 [] 0 0 ∷
-    line 2157 0 holds7 init3 17 [] 1 0 ∷
-    line 1131 0 holds7 (init7 (pos 50)) 17 [] 1 0 ∷
+    -- "17: Init (outside status 1) …", by document 02, 1, "1,090 for each id": of an unknown name, a second one, a held one
+    line 1142 0 (opened ∷ []) (init7 (pos 50)) 17 [] 0 0 ∷
+    line 2285 0 holds7 init3 17 [] 1 0 ∷
+    line 1195 0 holds7 (init7 (pos 50)) 17 [] 1 0 ∷
     -- of a name held among 32, which is no 15
     from fullTable noProducer [] (call (initCall (ascii "a") (pos 50) (pos 100))) 17 [] 32 0 ∷
     []
@@ -138,7 +141,7 @@ addRefusals =
     lineFrom (lending 2561 40 (rigTable Begin 0 1) noProducer) [] (call (addCall rig7 (pos 1000) (pos 0) 1 (pos 100))) 8 [] 1 0 ∷
     -- "1 name": 3 would apply too
     line 2560 0 (begins (pos 50)) (call (addCall [] (pos 1000) (pos 0) 0 (pos 100))) 1 [] 1 0 ∷
-    line 2560 0 (begins (pos 50)) (call (addCall (replicate 33 97) (pos 1000) (pos 0) 4 (pos 100))) 1 [] 1 0 ∷
+    line 2560 0 (begins (pos 50)) (call (addCall (replicate 65 97) (pos 1000) (pos 0) 4 (pos 100))) 1 [] 1 0 ∷
     -- "3 set empty or outside the catalogue": 10 would apply too
     line 2560 0 (begins (pos 50)) (call (addCall rig7 (pos 999) (pos 0) 0 (pos 100))) 3 [] 1 0 ∷
     line 2560 0 (begins (pos 50)) (call (addCall lab3 (pos 1000) (pos 0) 4 (pos 100))) 3 [] 1 0 ∷
@@ -162,13 +165,13 @@ addRefusals =
     line 2560 0 (opened ∷ init7 (pos 50) ∷ []) (add7 1) 12 [] 1 0 ∷
     line 2560 0 (holds7 ++ (join ∷ [])) (add7 1) 12 [] 1 0 ∷
     -- "Status 2, 3: 14.": 17 would apply too, but in the last, of joined partitions
-    line 1146 0 (begins (pos 50) ++ (end7 0 ∷ call (flushCall 187) ∷ [])) (add7 256) 14 [] 1 0 ∷
-    line 1146 0 (begins (pos 50) ++ (end7 1 ∷ call (flushCall 187) ∷ [])) (add7 256) 14 [] 1 0 ∷
+    line 1210 0 (begins (pos 50) ++ (end7 0 ∷ call (flushCall 187) ∷ [])) (add7 256) 14 [] 1 0 ∷
+    line 1210 0 (begins (pos 50) ++ (end7 1 ∷ call (flushCall 187) ∷ [])) (add7 256) 14 [] 1 0 ∷
     line 2560 8 (prepares 0) (add7 1) 14 [] 1 0 ∷
-    -- "17: … an Add that appends need[s] 1,026 bytes left after [its] record for each id then held": the first partition, a wider set, two ids
-    line 1145 0 holds7 join 17 [] 1 0 ∷
-    line 1226 0 (begins (pos 50)) (add7 256) 17 [] 1 0 ∷
-    line 2224 0 holdsBoth join 17 [] 2 0 ∷
+    -- "17: … an Add that appends …": the first partition, a wider set, two ids
+    line 1209 0 holds7 join 17 [] 1 0 ∷
+    line 1290 0 (begins (pos 50)) (add7 256) 17 [] 1 0 ∷
+    line 2352 0 holdsBoth join 17 [] 2 0 ∷
     []
 
 -- End
@@ -179,7 +182,7 @@ endRefusals =
     lineFrom (lending 2561 40 (rigTable Begin 0 1) noProducer) [] (end7 0) 8 [] 1 0 ∷
     -- "1 name": 4 would apply too
     line 2560 0 (begins (pos 50)) (call (endCall [] (pos 1000) (pos 0) 2 (pos 120))) 1 [] 1 0 ∷
-    line 2560 0 (begins (pos 50)) (call (endCall (replicate 33 97) (pos 1000) (pos 0) 2 (pos 120))) 1 [] 1 0 ∷
+    line 2560 0 (begins (pos 50)) (call (endCall (replicate 65 97) (pos 1000) (pos 0) 2 (pos 120))) 1 [] 1 0 ∷
     -- "4 verdict not 0 or 1": 10 would apply too
     line 2560 0 (begins (pos 50)) (call (endCall lab3 (pos 1000) (pos 0) 2 (pos 120))) 4 [] 1 0 ∷
     line 2560 0 (begins (pos 50)) (call (endCall rig7 (pos 999) (pos 0) 256 (pos 120))) 4 [] 1 0 ∷
@@ -269,7 +272,7 @@ produceRefusals =
     lineFrom (lending 2560 41 (rigTable Begin 0 1) noProducer) [] put 8 [] 1 0 ∷
     -- "1 name": 3 would apply too
     line 2560 40 (begins (pos 50)) (produceCall [] (pos 1000) (pos 0) 2 (pos 0) 502) 1 [] 1 0 ∷
-    line 2560 40 (begins (pos 50)) (produceCall (replicate 33 97) (pos 1000) (pos 0) 2 (pos 0) 502) 1 [] 1 0 ∷
+    line 2560 40 (begins (pos 50)) (produceCall (replicate 65 97) (pos 1000) (pos 0) 2 (pos 0) 502) 1 [] 1 0 ∷
     -- "3 … or such a position": 7 would apply too
     line 2560 40 (begins (pos 50)) (produceCall rig7 (pos 1000) (pos 0) 2 (negsuc 0) 502) 3 [] 1 0 ∷
     line 2560 40 (begins (pos 50)) (produceCall rig7 (pos 1000) (pos 0) 64 (negsuc 0) 502) 3 [] 1 0 ∷

@@ -8,9 +8,10 @@ use Rattle.examples.specs.SetLines.{setLines, setHeld}
 use Rattle.examples.specs.PidLines.{pidLines}
 use Rattle.examples.specs.PartitionLines.{markerPlaces, entryLines}
 use Rattle.examples.specs.LimitLines.{catalogueTexts, lastPosition, restLengths, lastPlaces}
+use Rattle.examples.specs.NameLines.{nameLengths, alikeNames, tornNames, longestFrames, nameHeld}
 
 pub data Theme : Type 0 where
-  epochs clock sets pids markers entries catalogues lastPositions rests lastPlace : Theme
+  epochs clock sets pids markers entries catalogues lastPositions rests lastPlace names alike tornName longest : Theme
 
 abbrev pub linesOf : Theme → List Line
 linesOf epochs = epochLines
@@ -23,6 +24,10 @@ linesOf catalogues = catalogueTexts
 linesOf lastPositions = lastPosition
 linesOf rests = restLengths
 linesOf lastPlace = lastPlaces
+linesOf names = nameLengths
+linesOf alike = alikeNames
+linesOf tornName = tornNames
+linesOf longest = longestFrames
 
 abbrev pub heldLines : List HeldLine
-heldLines = epochHeld ++ clockHeld ++ setHeld
+heldLines = epochHeld ++ clockHeld ++ setHeld ++ nameHeld

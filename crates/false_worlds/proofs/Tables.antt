@@ -12,6 +12,7 @@ use Rattle.numbers.specs.Padded.{untilZero}
 use Rattle.bits.specs.Bits.{members}
 use Rattle.catalogue.specs.Catalogue.{nameByte, nameRun, isLine, lineAt, isNew, lines as catalogueLines, parse}
 use Rattle.record.specs.Frame.{key, partitionBytes, topicEntry, topicBytes, topicsBelow, countBelow, topics, value, frame}
+use Rattle.record.specs.Limits.{nameMax}
 use Rattle.numbers.specs.Integers.{integerOf, numberFrom}
 use Rattle.record.specs.Record.{nameBytes, nameFits, validName, joinedFits, startFits, fieldsFit, wellFormed}
 use Rattle.record.specs.Topics.{withPartition, partitionsBelow, partitionsOf, partitionsAt, nameStands, topicAt, past, walk}
@@ -43,9 +44,9 @@ use Rattle.false_worlds.proofs.Differ.{differ, differ-lists, fails, pas
 pub not-by-appearance : (x : Misplaced) → PlacesByAppearance bothRecords (misplaced x) → ⊥
 unfolding hasName namesOf same
 not-by-appearance swapped = λ k. let (here, rest) = k .held in differ-lists name3 name7 refl refl here
-not-by-appearance fromTheEnd = λ k. let (here, rest) = k .held in differ-lists (replicate 32 0) name7 refl refl here
+not-by-appearance fromTheEnd = λ k. let (here, rest) = k .held in differ-lists (replicate nameMax 0) name7 refl refl here
 not-by-appearance placeTwice = λ k. fails (k .others 2 (leb-true 2 2 refl))
-not-by-appearance placeLeftOut = λ k. let (here, more) = k .held in let (second, rest) = more in differ-lists (replicate 32 0) name3 refl refl second
+not-by-appearance placeLeftOut = λ k. let (here, more) = k .held in let (second, rest) = more in differ-lists (replicate nameMax 0) name3 refl refl second
 
 pub not-its-numbers : (x : Misnumbered) → NumbersOf scans bothRecords (misnumbered x) → ⊥
 unfolding framesOf greatestUpdate pidsAbove ones overwrite same bigEndian integerBytes untilZero members nameByte nameRun isLine lineAt isNew catalogueLines parse key partitionBytes topicEntry topicBytes topicsBelow countBelow topics value frame

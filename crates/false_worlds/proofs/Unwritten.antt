@@ -118,8 +118,8 @@ not-first-bad logsEnd = λ k. differ 159 53 refl refl (one-offset k bad-at-53)
 
 -- ---- the reserve
 
--- a BEGIN asks for 1,026 bytes behind the log's end, at 120; the buffer has 1,025
-pub not-reserved : InOrder scanText (beginLog 1025) 120 (pos 1) (pos 1000) (pos 1999) → ⊥
+-- a BEGIN asks for 1,090 bytes behind the log's end, at 120; the buffer has 1,089
+pub not-reserved : InOrder scanText (beginLog 1089) 120 (pos 1) (pos 1000) (pos 1999) → ⊥
 unfolding hasName namesOf allCome tableFrom framesOf apply lowestFree placeOf firstWhere find sumOf succeeds mayCome mayFollowStatus first initializes begins widens preparesCommit preparesAbort completes keeps follows wellFormed validName fieldsFit joinedFits startFits integerOf numberFrom nameBytes nameFits ones overwrite same bigEndian integerBytes untilZero members nameByte nameRun isLine lineAt isNew catalogueLines parse key partitionBytes topicEntry topicBytes topicsBelow countBelow topics value frame
 not-reserved k =
-    above 1146 1145 refl (k .reserve begins7 [] (record { bytes-are = refl; written = could-write scanText refl begins7 refl; torn = refl }))
+    above 1210 1209 refl (k .reserve begins7 [] (record { bytes-are = refl; written = could-write scanText refl begins7 refl; torn = refl }))

@@ -101,5 +101,5 @@ beginLog n = framesOf (parse scanText .catalogue) (recordAt Begin 1000 0 1 110 â
 
 abbrev pub noRestart : NoRestart â†’ World
 noRestart badLog = worldOf (replicate 8 0) (down 8 1) [] nothing []
-noRestart tooLittleRoom = worldOf (beginLog 1025) (down 120 1) [] nothing []
+noRestart tooLittleRoom = worldOf (beginLog 1089) (down 120 1) [] nothing []
 noRestart pastBuffer = worldOf [] (down 1 1) [] nothing []
