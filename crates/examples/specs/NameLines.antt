@@ -3,12 +3,13 @@ use Prim.Native.Nat.{ℕ, _+_, _-_}
 use mathlib.Core.List.{List, [], _∷_, _++_}
 use lib.IntN.{pos, negsuc}
 use lib.ListN.{replicate}
+use Rattle.record.specs.Longest.{widestText}
 use Rattle.coordinator.specs.Calls.{initCall, addCall, endCall}
 use Rattle.server.specs.Calls.{Call, openLog, openWords, call, produceCall}
 use Rattle.server.specs.Lines.{Line, line, writes, lent, opened}
 use Rattle.examples.specs.Starts.{reopened, holds7, tickAt, flushed}
 use Rattle.examples.specs.Held.{HeldLine, heldFrom}
-use Rattle.examples.specs.LimitLines.{under, widestText}
+use Rattle.examples.specs.LimitLines.{under}
 
 -- a name of n bytes, and one of 64 that has the first n bytes of those and then others
 abbrev pub nameOf : ℕ → List ℕ
