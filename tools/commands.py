@@ -7,7 +7,7 @@ Shares no code with the proved crates: fields by bytes.split-like rules of its o
 import re
 import sys
 
-ROOM = 64  # the program's buffer: a line and its line feed fit in it
+ROOM = 128  # the program's buffer: a line and its line feed fit in it
 TYPES = {"i16": (-2**15, 2**15 - 1), "i32": (-2**31, 2**31 - 1), "i64": (-2**63, 2**63 - 1), "u64": (0, 2**64 - 1)}
 COMMANDS = {
     b"init": ("name", "i32", "i64"),

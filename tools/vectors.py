@@ -3,7 +3,7 @@
 
     tools/vectors.py > crates/vectors/stdout
 """
-from frames import STATUS, catalogue, frame, frame_at, positions
+from frames import NAME_MAX, STATUS, catalogue, frame, frame_at, positions
 
 
 def show_catalogue(text):
@@ -17,7 +17,7 @@ def show_reading(answer):
         return
     r = answer[1]
     fields = [r["pid"], r["epoch"], r["timeout"], r["status"], r["joined"], r["updated"], r["start"]]
-    print("whole", answer[2], r["name"].ljust(32, b"\0").hex(), *fields)
+    print("whole", answer[2], r["name"].ljust(NAME_MAX, b"\0").hex(), *fields)
 
 
 def show_frame(topics, r):
@@ -55,9 +55,11 @@ def main():
     greatest = record(b"~", pid=2**63 - 1, epoch=32767, timeout=900000, status=STATUS["PREPARE_ABORT"], joined=259,
                       updated=2**63 - 1, start=2**63 - 1)
     begun = record(b"rig7", joined=257)
-    for r in (empty, record(b"rig7", joined=1), begun, least, greatest):
+    half, longest = b"building-07.line-0002.rig-00419.", b"building-07.line-0002.rig-00419.quadrupole-3.detector-bench-B-04"
+    for r in (empty, record(b"rig7", joined=1), begun, least, greatest, record(half, joined=257), record(half + b"q", joined=257), record(longest, joined=257)):
         show_frame(small, r)
-    show_frame(full, record(b"rig-of-thirty-two-bytes-in-all-3", joined=2**64 - 1))
+    for name in (half, longest):
+        show_frame(full, record(name, joined=2**64 - 1))
     show_changes(small, begun)
     print("end")
 

@@ -8,7 +8,7 @@ use listing::Reply;
 use listing::Results;
 
 // A short buffer, so that many lines do not fit it.
-const LINE_ROOM: usize = 64;
+const LINE_ROOM: usize = 128;
 
 const OUT_ROOM: usize = 512;
 

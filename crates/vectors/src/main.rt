@@ -102,13 +102,16 @@ fn main() {
     let greatest = extreme(b"~", Status::PrepareAbort, 259, false);
     show::frame(small, least);
     show::frame(small, greatest);
+    let half = b"building-07.line-0002.rig-00419.";
+    let longest = b"building-07.line-0002.rig-00419.quadrupole-3.detector-bench-B-04";
+    show::frame(small, begun(half, 257));
+    show::frame(small, begun(b"building-07.line-0002.rig-00419.q", 257));
+    show::frame(small, begun(longest, 257));
     let full = catalogue_of(
         b"topic-0-aaaaaaaa\t8\ntopic-1-aaaaaaaa\t8\ntopic-2-aaaaaaaa\t8\ntopic-3-aaaaaaaa\t8\ntopic-4-aaaaaaaa\t8\ntopic-5-aaaaaaaa\t8\ntopic-6-aaaaaaaa\t8\ntopic-7-aaaaaaaa\t8\n",
     );
-    show::frame(
-        full,
-        begun(b"rig-of-thirty-two-bytes-in-all-3", 18446744073709551615),
-    );
+    show::frame(full, begun(half, 18446744073709551615));
+    show::frame(full, begun(longest, 18446744073709551615));
     show::damaged(small, begun(b"rig7", 257));
     io::write_all(STDOUT_FILENO, b"end\n");
 }
