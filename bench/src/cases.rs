@@ -1,5 +1,7 @@
 //! The rows of the table: what is measured, on which state, and the goal of each.
-use crate::inputs::{apart_name, entries, log, name_of_length, prefixed_name, Log, Setup, FIRST_PID, LOG_ROOM, LONGEST_TEXT, NAME_LENGTH, TEXT, WORDS_ROOM};
+use crate::inputs::{
+    apart_name, entries, log, longest_name, name_of_length, prefixed_name, Log, Setup, FIRST_PID, LOG_ROOM, LONGEST_TEXT, NAME_LENGTH, TEXT, WORDS_ROOM,
+};
 use crate::log::PLACES;
 use crate::record::FRAME_MAX;
 use crate::script::{Call, Kind, Lent};
@@ -74,6 +76,7 @@ fn opening_cases() -> Vec<Case> {
         opened("opening, 4 MiB, 32 names of one prefix".into(), Some(1.0), &prefixed(32), 4 * MEBIBYTE),
         opened("opening, 4 MiB, 32 names apart".into(), Some(1.0), &names(32, apart_name), 4 * MEBIBYTE),
         opened("opening, 4 MiB, 32 names of 16 lengths".into(), Some(1.0), &names(32, name_of_length), 4 * MEBIBYTE),
+        opened("opening, 4 MiB, 32 names of 64 bytes and one prefix".into(), Some(1.0), &names(32, longest_name), 4 * MEBIBYTE),
         opened("opening, 2 MiB, 32 names of one prefix".into(), Some(1.0), &prefixed(32), 2 * MEBIBYTE),
         opened("opening, 1 MiB, 32 names of one prefix".into(), Some(1.0), &prefixed(32), MEBIBYTE),
     ]

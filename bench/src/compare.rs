@@ -5,6 +5,7 @@ use crate::names::{Mapped, Searched};
 use crate::partition::ENTRY_WORDS;
 use crate::random_script::{all_names, random_script, RandomScript, OUT_ROOM};
 use crate::reader::FastState;
+use crate::record::FRAME_MAX;
 use crate::script::{Call, Kind, Lent, Server, WIDTH};
 use crate::sides::{Proved, Rust, Side};
 use std::collections::BTreeMap;
@@ -82,7 +83,7 @@ fn damaged(chance: &mut Chance, log: &[u8]) -> Vec<u8> {
 /// Opens a log that was cut or damaged, and shows all rows.
 fn compare_log(chance: &mut Chance, text: &[u8], log: &[u8], seen: &mut Seen) {
     let mut buffer = damaged(chance, log);
-    let room = chance.of(&[0, 100, 600, 40000]);
+    let room = chance.of(&[0, 100, FRAME_MAX - 1, FRAME_MAX, 2 * FRAME_MAX - 1, 2 * FRAME_MAX, 40000]);
     let mut length = chance.below(buffer.len() as u64 + 1) as usize;
     if chance.percent(50) {
         length = buffer.len();

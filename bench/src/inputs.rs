@@ -22,7 +22,12 @@ pub fn prefixed_name(k: usize) -> Vec<u8> {
     format!("rig-producer-{k:02}").into_bytes()
 }
 
-/// A name of the same length that differs from the others in its first byte.
+/// A name of 64 bytes that differs from the others only in its last two.
+pub fn longest_name(k: usize) -> Vec<u8> {
+    format!("building-07.line-0002.rig-00419.quadrupole-3.detector-bench-B-{k:02}").into_bytes()
+}
+
+/// A name of the same length as the prefixed ones that differs from the others in its first byte.
 pub fn apart_name(k: usize) -> Vec<u8> {
     let mut name = b"Arig-producer-0".to_vec();
     name[0] += k as u8;

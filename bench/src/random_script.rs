@@ -2,26 +2,31 @@
 use crate::chance::Chance;
 use crate::inputs::TEXT;
 use crate::names::Searched;
-use crate::record::Status;
+use crate::record::{Status, EMPTY_FRAME, FRAME_MAX, NAME_MAX};
 use crate::script::{Call, Kind, Lent, Server};
 
 const TEXTS: [&[u8]; 3] = [TEXT, b"a\t1\n", b"x.y_Z-0123456789\t8\nb\t8\n"];
-const NAMES: [&[u8]; 12] = [
-    b"a",
-    b"b",
-    b"rig7",
-    b"quad-3",
-    b"!~",
-    b"nnnnnnnnnnnnnnnnnnnnnnnnnnnnnnnn",
-    b"nnnnnnnnnnnnnnnnnnnnnnnnnnnnnnn",
-    b"aa",
+const LONGEST: &[u8; NAME_MAX] = b"building-07.line-0002.rig-00419.quadrupole-3.detector-bench-B-04";
+const HALF: usize = NAME_MAX / 2;
+
+/// How much of the longest name a name starts with, and what stands behind that.
+const NAMES: [(usize, &[u8]); 12] = [
+    (0, b"a"),
+    (NAME_MAX, b""),
+    (NAME_MAX - 1, b"5"),
+    (NAME_MAX - 1, b""),
+    (HALF, b""),
+    (HALF + 1, b""),
+    (HALF, b"r"),
+    (0, b"rig7"),
     // no names:
-    b"",
-    b"nnnnnnnnnnnnnnnnnnnnnnnnnnnnnnnnn",
-    b"a\x7f",
-    b"a b",
+    (0, b""),
+    (NAME_MAX, b"4"),
+    (0, b"a\x7f"),
+    (HALF, b" "),
 ];
 const GOOD_NAMES: usize = 8;
+const MANY_NAMES: usize = 36;
 const NUMBERS: [u64; 14] = [0, 1, 2, 31, 32, 63, 64, 1000, 32766, 32767, 2147483647, u64::MAX, 1 << 63, (1 << 63) - 1];
 
 /// The names one behind the other, and where each lies.
@@ -30,22 +35,33 @@ pub struct AllNames {
     parts: Vec<(usize, usize)>,
 }
 
+impl AllNames {
+    fn push(&mut self, front: usize, rest: &[u8]) {
+        let from = self.bytes.len();
+        self.bytes.extend(&LONGEST[..front]);
+        self.bytes.extend(rest);
+        self.parts.push((from, self.bytes.len()));
+    }
+}
+
+/// The names above, and many of 2, 33 and 64 bytes that differ in their last two.
 pub fn all_names() -> AllNames {
     let mut all = AllNames { bytes: vec![], parts: vec![] };
-    let many: Vec<Vec<u8>> = (0..36).map(|k| format!("id{k:02}").into_bytes()).collect();
-    for name in NAMES.iter().map(|name| name.to_vec()).chain(many) {
-        let from = all.bytes.len();
-        all.bytes.extend(name);
-        all.parts.push((from, all.bytes.len()));
+    for (front, rest) in NAMES {
+        all.push(front, rest);
+    }
+    for k in 0..MANY_NAMES {
+        all.push([0, HALF - 1, NAME_MAX - 2][k % 3], format!("{k:02}").as_bytes());
     }
     all
 }
 
-/// The sizes of the lent buffers, and what the calls of a script are drawn for.
+/// The sizes of the lent buffers, and what the calls of a script are drawn for: so many names from the first one on.
 struct Room {
     log: usize,
     words: usize,
     names: usize,
+    first_name: usize,
 }
 
 /// Writes a script call by call: mostly what a producer or a carrier would do next, as the state says that the calls led to.
@@ -71,7 +87,7 @@ impl Writer<'_> {
         if self.room.names > GOOD_NAMES {
             NAMES.len() + k
         } else {
-            k
+            (self.room.first_name + k) % GOOD_NAMES
         }
     }
 
@@ -211,11 +227,14 @@ const LENGTH: usize = 300;
 
 pub fn random_script(seed: u64, names: &AllNames) -> RandomScript {
     let mut chance = Chance(seed);
-    let tight = 1074 + chance.below(8) as usize;
+    let first_name = chance.below(GOOD_NAMES as u64) as usize;
+    let (from, to) = names.parts[first_name];
+    let tight = 2 * FRAME_MAX + EMPTY_FRAME + to - from + chance.below(3) as usize - 1;
     let room = Room {
         log: chance.of(&[tight, 2500, 8192, 40000, 70000, 70000, 100_000, 100_000]),
         words: chance.of(&[8, 67, 256, 1024]),
-        names: chance.of(&[1, 3, 8, 36]),
+        names: chance.of(&[1, 3, GOOD_NAMES, MANY_NAMES]),
+        first_name,
     };
     let text = chance.of(&TEXTS);
     let (log, words, out) = (vec![0; room.log], vec![0; room.words], vec![0; OUT_ROOM]);

@@ -1,10 +1,11 @@
 //! One call made many times in Rust, from a given state on, as the crate bench_calls does: with the names, pids and places of all ids in turn, or with times and lengths that rise by one.
 use crate::log::PLACES;
 use crate::names::Names;
+use crate::record::NAME_MAX;
 use crate::script::{done, initialized, ordered, produced, ticked, Call, Kind, Outcome, Server};
 
 /// The bytes from one name to the next.
-pub const NAME_STRIDE: usize = 32;
+pub const NAME_STRIDE: usize = NAME_MAX;
 
 fn with_outcome(sum: u64, outcome: Outcome) -> u64 {
     sum.wrapping_add(outcome[0]).wrapping_add(outcome[1]).wrapping_add(outcome[2])

@@ -6,7 +6,7 @@ use partition::Partition;
 ghost use Prim.Native.Nat.{_≤_};
 
 // The bytes from one name to the next.
-const NAME_STRIDE: usize = 32;
+const NAME_STRIDE: usize = record::NAME_MAX;
 
 // A sum of answers with one more.
 pub fn with_outcome(sum: u64, outcome: Outcome) -> u64 {
