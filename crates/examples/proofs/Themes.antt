@@ -1,6 +1,7 @@
 -- The lines of every theme hold.
 use mathlib.Core.Path.{_≡_, refl}
 use mathlib.Core.List.{map}
+use lib.Dec.{eqb}
 use lib.Count.{ones, trailingZeros}
 use Rattle.numbers.specs.Bytes.{overwrite, same}
 use Rattle.numbers.specs.Integers.{bigEndian, integerBytes, integerOf, numberFrom}
@@ -10,7 +11,7 @@ use Rattle.catalogue.specs.Catalogue.{nameByte, nameRun, isLine, lineAt, isNew,
 use Rattle.record.specs.Record.{nameBytes, nameFits, validName, joinedFits, startFits, fieldsFit, wellFormed}
 use Rattle.record.specs.Frame.{key, partitionBytes, topicEntry, topicBytes, topicsBelow, countBelow, topics, value, frame}
 use Rattle.record.specs.Topics.{withPartition, partitionsBelow, partitionsOf, partitionsAt, nameStands, topicAt, past, walk}
-use Rattle.record.specs.Reading.{candidate, judged, readFrameWithin}
+use Rattle.record.specs.Reading.{candidate, judged, readFrameWithin, isTornRest}
 use Rattle.succession.specs.Moves.{mayFollowStatus}
 use Rattle.succession.specs.Succession.{first, initializes, begins, widens, preparesCommit, preparesAbort, completes, keeps, follows}
 use Rattle.search.specs.Search.{firstWhere, countWhere, sumOf}
@@ -36,6 +37,7 @@ use Rattle.server.specs.Produce.{produceRowTests, produceTests, produce}
 use Rattle.server.specs.Lines.{Line, outcome, afterAll}
 use Rattle.examples.specs.Starts.{framesInOrder}
 use Rattle.examples.specs.Held.{HeldLine, heldThen}
+use Rattle.examples.specs.LimitLines.{restLengths}
 use Rattle.examples.specs.Themes.{Theme, epochs, clock, sets, pids, markers, entries, catalogues, lastPositions, rests, lastPlace, names, alike, tornName, longest, linesOf, heldLines}
 
 pub themes-hold : (t : Theme) → map outcome (linesOf t) ≡ map (λ (l : Line). l .expected) (linesOf t)
@@ -54,6 +56,11 @@ themes-hold names = refl
 themes-hold alike = refl
 themes-hold tornName = refl
 themes-hold longest = refl
+
+-- demand 2 takes for torn the rests with which these logs are opened, and no other of them
+pub rests-torn : map (λ (l : Line). isTornRest (l .start .log)) restLengths ≡ map (λ (l : Line). eqb (l .expected .number) 0) restLengths
+unfolding integerOf numberFrom
+rests-torn = refl
 
 -- what is held
 pub held-lines-hold : map heldThen heldLines ≡ map (λ (l : HeldLine). l .expected) heldLines

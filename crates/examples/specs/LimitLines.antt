@@ -73,6 +73,7 @@ restOf bytes number results =
 abbrev pub restLengths : List Line
 restLengths =
     restOf (0 ∷ 0 ∷ 0 ∷ 5 ∷ 0 ∷ 0 ∷ 0 ∷ 37 ∷ []) 0 [] ∷
+    restOf (0 ∷ 0 ∷ 0 ∷ 37 ∷ 0 ∷ 0 ∷ 0 ∷ 37 ∷ []) 0 [] ∷
     restOf (0 ∷ 0 ∷ 0 ∷ 68 ∷ 0 ∷ 0 ∷ 1 ∷ 213 ∷ []) 0 [] ∷
     restOf (0 ∷ 0 ∷ 0 ∷ 4 ∷ 0 ∷ 0 ∷ 0 ∷ 37 ∷ []) 6 (pos 0 ∷ []) ∷
     restOf (0 ∷ 0 ∷ 0 ∷ 69 ∷ 0 ∷ 0 ∷ 0 ∷ 37 ∷ []) 6 (pos 0 ∷ []) ∷
