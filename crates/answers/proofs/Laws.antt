@@ -1,7 +1,7 @@
 -- Laws of tests in order and of what is decided by them.
 use Prim.Native.Nat.{ℕ}
 use mathlib.Core.Path.{_≡_, refl, sym, ap, _∙_}
-use mathlib.Core.Bool.{Bool, true, false, cond, _||_, true≢false}
+use mathlib.Core.Bool.{Bool, true, false, cond, _&&_, _||_, and-true, true≢false}
 use mathlib.Core.List.{List, [], _∷_, _++_}
 use lib.Dec.{eqb}
 use borrow.Author.Tests.{eqb-true, eqb-false, eq-eqb, ne-eqb}
@@ -101,6 +101,18 @@ first-among (refuse number false ∷ tests) = skip-one (eqb (firstRefusal tests)
 -- a number other than 0 that no test has is not the first refusal
 pub first-other : (k : ℕ) (tests : List Test) → among k (0 ∷ numbersOf tests) ≡ false → firstRefusal tests ≡ k → ⊥
 first-other k tests h e = true≢false (sym (first-among tests) ∙ ap (λ (n : ℕ). among n (0 ∷ numbersOf tests)) e ∙ h)
+
+-- no test of this number applies
+abbrev pub NoneOf : ℕ → List Test → Type 0
+NoneOf k [] = eqb 0 k ≡ false
+NoneOf k (refuse number applies ∷ tests) = ((eqb number k && applies) ≡ false) × NoneOf k tests
+
+-- so it is not the first refusal
+pub first-none-of : (k : ℕ) (tests : List Test) → NoneOf k tests → firstRefusal tests ≡ k → ⊥
+unfolding firstRefusal
+first-none-of k [] h e = eqb-false 0 k h e
+first-none-of k (refuse number true ∷ tests) (h, hs) e = eqb-false number k (sym (and-true (eqb number k)) ∙ h) e
+first-none-of k (refuse number false ∷ tests) (h, hs) e = first-none-of k tests hs e
 
 -- ---- what is decided
 

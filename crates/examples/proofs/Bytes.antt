@@ -35,7 +35,7 @@ use Rattle.partition.specs.Append.{lastSequence, nextSequence, produced, partit
 use Rattle.server.specs.Produce.{produceRowTests, produceTests, produce}
 use Rattle.server.specs.Lines.{afterAll}
 use Rattle.examples.specs.Starts.{framesInOrder}
-use Rattle.examples.specs.BytesLines.{FrameLine, frameThen, frameLines, BufferLine, buffersThen, buffersExpected, bufferLines}
+use Rattle.examples.specs.BytesLines.{FrameLine, frameThen, frameLines, buffersThen, buffersExpected, bufferLines}
 
 pub frames-hold : map frameThen frameLines ≡ map (λ (l : FrameLine). l .bytes) frameLines
 unfolding frameThen bigEndian integerBytes untilZero members nameByte nameRun isLine isNew catalogueLines parse key partitionBytes topicEntry topicBytes topicsBelow countBelow topics value frame overwrite same

@@ -12,7 +12,7 @@ use Rattle.table.specs.declared.Table.{Table}
 use Rattle.coordinator.specs.Open.{blankState}
 use Rattle.coordinator.specs.Calls.{ackCall}
 use Rattle.partition.specs.Partition.{openPartition, noProducer}
-use Rattle.server.specs.Calls.{Server, Call, openLog, call, orderCall, markerCall}
+use Rattle.server.specs.Calls.{Call, openLog, call, orderCall, markerCall}
 use Rattle.server.specs.Lines.{Line, line, lineFrom, writes, catalogueText, init7, put}
 use Rattle.examples.specs.Starts.{record7, from, addAt, endAt, ackAt, tickAt, flushed}
 

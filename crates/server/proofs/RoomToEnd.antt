@@ -1,24 +1,21 @@
 -- The room to end and complete every transaction is kept, and the calls that do it have no test of 17 that applies.
 use Prim.Native.Nat.{ℕ, _+_, _≤_}
-use mathlib.Core.Path.{_≡_, refl, sym, ap, _∙_}
-use mathlib.Core.Bool.{true, false, not, _&&_, and-true, true≢false, false≢true}
-use mathlib.Core.List.{List, [], _∷_}
+use mathlib.Core.Path.{_≡_, refl, sym, _∙_}
+use mathlib.Core.Bool.{true, false, not, _&&_, false≢true}
+use mathlib.Core.List.{List}
 use native.Mathlib.Omega.{arith}
-use lib.Dec.{eqb}
 use lib.IntN.{ℤ}
 use lib.ListN.{length}
-use borrow.Author.Tests.{eq-eqb}
 use Rattle.numbers.specs.Padded.{padded}
-use Rattle.numbers.proofs.Tests.{by-cases}
 use Rattle.record.specs.Limits.{nameMax}
 use Rattle.row.specs.Row.{isBegin}
 use Rattle.table.specs.Room.{roomToEnd}
 use Rattle.table.proofs.Reserve.{reserved-counted}
 use Rattle.answers.specs.Answers.{initReply}
-use Rattle.answers.specs.Refusals.{Test, refuse, firstRefusal, among}
+use Rattle.answers.specs.Refusals.{firstRefusal, among}
 use Rattle.answers.specs.declared.InitAnswer.{InitAnswer}
 use Rattle.answers.specs.declared.InitAnswer.the-variants.{Refused as InitRefused}
-use Rattle.answers.proofs.Laws.{unless-number}
+use Rattle.answers.proofs.Laws.{first-none-of, unless-number}
 use Rattle.coordinator.specs.Coordinator.{logEnd, rowOf, holdsName, logFull, keep}
 use Rattle.coordinator.specs.Calls.{initCall, addCall, endCall, tickCall, flushCall, ackCall}
 use Rattle.coordinator.specs.Init.{initRow, idsThen, initRowTests, initTests, initAccepted, init}
@@ -29,17 +26,6 @@ use Rattle.server.specs.RoomToEnd.{hasRoom, RoomToEnd}
 use Rattle.server.proofs.Demand1.{init-done}
 use Rattle.server.proofs.Admitted.{Reserves, without, opened-reserves, each-reserves}
 
--- none of the tests that apply has this number
-abbrev Other : ℕ → List Test → Type 0
-Other k [] = eqb 0 k ≡ false
-Other k (refuse number applies ∷ rest) = ((eqb number k && applies) ≡ false) × Other k rest
-
-other-first : (k : ℕ) (tests : List Test) → Other k tests → eqb (firstRefusal tests) k ≡ false
-unfolding firstRefusal
-other-first k [] o = o
-other-first k (refuse number applies ∷ rest) (o, more) =
-    by-cases (λ (n : ℕ). eqb n k ≡ false) applies (λ t. sym (and-true (eqb number k)) ∙ rw t at o) (λ f. other-first k rest more)
-
 -- Init of a name in status 1
 init-never : (s : Coordinator) (n : ℕ) (name : List ℕ) (timeout time : ℤ) → isBegin (rowOf s name .status) ≡ true → initReply (init s n name timeout time .answer) .number ≡ 17 → ⊥
 unfolding init initTests initRowTests
@@ -47,7 +33,7 @@ init-never s n name timeout time b e =
     let tests = initTests s n name timeout time in
     let number = unless-number (λ (a : InitAnswer). initReply a .number) (firstRefusal tests) InitRefused keep (initAccepted s name timeout time) (init-done s name timeout time) refl in
     let last : (not (isBegin (rowOf s name .status)) && logFull s (initRow s (padded nameMax name) (holdsName s name) (rowOf s name) timeout time) (idsThen s (holdsName s name))) ≡ false = rw b in
-    true≢false (sym (eq-eqb (firstRefusal tests) 17 (sym number ∙ e)) ∙ other-first 17 tests (refl, (refl, (refl, (refl, (refl, (refl, (refl, (last, refl)))))))))
+    first-none-of 17 tests (refl, (refl, (refl, (refl, (refl, (refl, (refl, (last, refl)))))))) (sym number ∙ e)
 
 never-17 : (c : Call) (s : Server) → hasRoom c s ≡ true → answerOf c s .number ≡ 17 → ⊥
 unfolding among
