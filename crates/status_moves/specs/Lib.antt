@@ -1,0 +1,2 @@
+-- Definitions of the crate status_moves.
+pub mod StatusMoves
