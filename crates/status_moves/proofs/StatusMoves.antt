@@ -1,16 +1,17 @@
 -- The theorem of request 4 of document 02: the rule of the table of status moves, and that what the calls append keeps to it.
-use Prim.Native.Nat.{ℕ}
+use Prim.Native.Nat.{ℕ, _<_}
 use mathlib.Core.Path.{_≡_, refl, sym, ap, ap₂, _∙_}
-use mathlib.Core.Bool.{true}
+use mathlib.Core.Bool.{Bool, true}
 use lib.Dec.{ltb}
 use native.Mathlib.Omega.{arith}
-use Rattle.numbers.proofs.Tests.{and-left, not-both}
+use Rattle.numbers.proofs.Tests.{not-both, and-left, same-test}
 use Rattle.record.specs.Record.{statusCode}
 use Rattle.record.specs.declared.Record.{Record}
+use Rattle.record.specs.declared.Status.the-variants.{PrepareCommit, CompleteAbort}
 use Rattle.record.proofs.Statuses.{of-codes}
 use Rattle.row.specs.Row.{recordOf}
 use Rattle.row.specs.declared.Row.{Row}
-use Rattle.succession.specs.Moves.{mayFollowStatus, moveFlag}
+use Rattle.succession.specs.Moves.{mayFollowStatus, statuses, moveFlag}
 use Rattle.succession.specs.Succession.{keeps, follows}
 use Rattle.succession.proofs.Laws.{first-new}
 use Rattle.succession.proofs.Moves.{moves-are}
@@ -40,13 +41,20 @@ come-set t r m h = come-either t r m (λ _ f. follows-set (t .next) (rowAt t (pl
 
 -- ---- the rule
 
-set-exactly : SetExactly
+set-exactly : SetExactly moveFlag
 set-exactly held new h k = (
   of-codes (λ x. moveFlag x new ≡ true → LetsFollow x new)
       (λ a. of-codes (λ y. moveFlag (statusCode a) y ≡ true → LetsFollow (statusCode a) y) (set-follows a) new (omega (arith, k))) held (omega (arith, h)),
   λ x.
       sym (ap₂ moveFlag (x .status-held) (x .status-new)) ∙ come-set (writerFrom (x .text) (x .n) (x .log) .state .table) (x .next) (x .may-come) (x .name-held),
 )
+
+-- no other table is set exactly so: the rule fixes every flag
+pub only-table : (flag : ℕ → ℕ → Bool) → SetExactly flag → (held new : ℕ) → held < statuses → new < statuses → flag held new ≡ moveFlag held new
+only-table flag x held new h k =
+    let (set, unset) = set-exactly held new h k in
+    let (to, from) = x held new h k in
+    same-test (flag held new) (moveFlag held new) (λ e. unset (to e)) (λ e. from (set e))
 
 -- ---- what the calls append
 
@@ -77,3 +85,7 @@ appends-set-moves text n o items c typed lent place row e =
 
 pub status-moves : StatusMoves
 status-moves = record { set-exactly = set-exactly; appends-set-moves = appends-set-moves }
+
+-- the move that document 000 misprints, COMPLETE_ABORT after PREPARE_COMMIT, is not one that a call may make
+pub misprint-not-made : (t : Table) (row : Row) → holds t (row .name) ≡ true → heldStatus t (row .name) ≡ statusCode PrepareCommit → row .status ≡ CompleteAbort → MakesSetMove t row → ⊥
+misprint-not-made t row h e f m = not-both {b = moveFlag (statusCode PrepareCommit) (statusCode CompleteAbort)} refl (sym (ap₂ moveFlag e (ap statusCode f)) ∙ m .moves h)

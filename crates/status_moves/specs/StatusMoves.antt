@@ -1,7 +1,7 @@
 -- Request 4 of document 02: which flags of the table of status moves are set, and that every record a call appends makes a move whose flag is set.
 use Prim.Native.Nat.{ℕ, _<_}
 use mathlib.Core.Path.{_≡_}
-use mathlib.Core.Bool.{true, false}
+use mathlib.Core.Bool.{Bool, true, false}
 use mathlib.Core.List.{List}
 use mathlib.Core.Logic.{_↔_}
 use Rattle.catalogue.specs.Catalogue.{parse}
@@ -36,9 +36,9 @@ pub record LetsFollow (held new : ℕ) : Type 0 where
   pub well-formed : wellFormed (parse text .catalogue) next ≡ true
   pub may-come : mayCome (writerFrom text n log .state .table) next ≡ true
 
--- "six rows of six flags, set exactly where …"
-abbrev pub SetExactly : Type 0
-SetExactly = (held new : ℕ) → held < statuses → new < statuses → (moveFlag held new ≡ true) ↔ LetsFollow held new
+-- "six rows of six flags, set exactly where …", of any table that has a flag for each row and column
+abbrev pub SetExactly : (ℕ → ℕ → Bool) → Type 0
+SetExactly flag = (held new : ℕ) → held < statuses → new < statuses → (flag held new ≡ true) ↔ LetsFollow held new
 
 -- ---- what the calls append
 
@@ -59,6 +59,6 @@ AppendsSetMoves =
 
 pub record StatusMoves : Type 0 where
   -- Not met by a table in which COMPLETE_ABORT may follow PREPARE_COMMIT, nor by one in which nothing begins after COMPLETE_ABORT.
-  pub set-exactly : SetExactly
+  pub set-exactly : SetExactly moveFlag
   -- Not met by a call that writes what the table forbids.
   pub appends-set-moves : AppendsSetMoves
