@@ -26,7 +26,7 @@ use Rattle.writable_logs.specs.Writer.{writes, writerFrom}
 use Rattle.writable_logs.proofs.Decisions.{byCall}
 use Rattle.writable_logs.proofs.Lawful.{decided-lawful}
 use Rattle.writable_logs.proofs.Reached.{opened-ready}
-use Rattle.status_moves.specs.StatusMoves.{heldStatus, LetsFollow, SetExactly, MakesSetMove, AppendsSetMoves, StatusMoves}
+use Rattle.status_moves.specs.StatusMoves.{openedTable, heldStatus, LetsFollow, SetExactly, MakesSetMove, AppendsSetMoves, StatusMoves}
 use Rattle.status_moves.proofs.Witnesses.{set-follows}
 
 -- ---- a record that may come next for a name that is held has its flag set
@@ -46,25 +46,24 @@ set-exactly held new h k = (
   of-codes (λ x. moveFlag x new ≡ true → LetsFollow x new)
       (λ a. of-codes (λ y. moveFlag (statusCode a) y ≡ true → LetsFollow (statusCode a) y) (set-follows a) new (omega (arith, k))) held (omega (arith, h)),
   λ x.
-      sym (ap₂ moveFlag (x .status-held) (x .status-new)) ∙ come-set (writerFrom (x .text) (x .n) (x .log) .state .table) (x .next) (x .may-come) (x .name-held),
+      sym (ap₂ moveFlag (x .status-held) (x .status-new)) ∙ come-set (openedTable (x .text) (x .n) (x .log)) (x .next) (x .may-come) (x .name-held),
 )
 
 -- no other table is set exactly so: the rule fixes every flag
 pub only-table : (flag : ℕ → ℕ → Bool) → SetExactly flag → (held new : ℕ) → held < statuses → new < statuses → flag held new ≡ moveFlag held new
 only-table flag x held new h k =
-    let (set, unset) = set-exactly held new h k in
-    let (to, from) = x held new h k in
-    same-test (flag held new) (moveFlag held new) (λ e. unset (to e)) (λ e. from (set e))
+    let ours = set-exactly held new h k in
+    let other = x held new h k in
+    same-test (flag held new) (moveFlag held new) (λ e. ours .1 (other .0 e)) (λ e. other .1 (ours .0 e))
 
 -- ---- what the calls append
 
--- what comes next in a table says nothing of acknowledgements
+-- a record that may come next in the table without its acknowledgements makes a set move in the table itself
 come-moves : (t : Table) (row : Row) → mayCome (unacknowledged t) (recordOf row) ≡ true → MakesSetMove t row
 come-moves t row m =
     record {
-      moves = λ h.
-          ap₂ moveFlag (sym status-same) refl ∙ come-set (unacknowledged t) (recordOf row) m (same-holds ∙ h);
-      starts = λ n. come-either (unacknowledged t) (recordOf row) m (λ h _. not-both n (sym same-holds ∙ h)) (λ _ f _. first-new (unacknowledged t .next) (recordOf row) f .0);
+      flag-set = λ h. ap₂ moveFlag (sym status-same) refl ∙ come-set (unacknowledged t) (recordOf row) m (same-holds ∙ h);
+      first-empty = λ n. come-either (unacknowledged t) (recordOf row) m (λ h _. not-both n (sym same-holds ∙ h)) (λ _ f _. first-new (unacknowledged t .next) (recordOf row) f .0);
     }
   where
     same-place : placeOf (unacknowledged t) (row .name) ≡ placeOf t (row .name)
@@ -88,4 +87,4 @@ status-moves = record { set-exactly = set-exactly; appends-set-moves = appends-s
 
 -- the move that document 000 misprints, COMPLETE_ABORT after PREPARE_COMMIT, is not one that a call may make
 pub misprint-not-made : (t : Table) (row : Row) → holds t (row .name) ≡ true → heldStatus t (row .name) ≡ statusCode PrepareCommit → row .status ≡ CompleteAbort → MakesSetMove t row → ⊥
-misprint-not-made t row h e f m = not-both {b = moveFlag (statusCode PrepareCommit) (statusCode CompleteAbort)} refl (sym (ap₂ moveFlag e (ap statusCode f)) ∙ m .moves h)
+misprint-not-made t row h e f m = not-both {b = moveFlag (statusCode PrepareCommit) (statusCode CompleteAbort)} refl (sym (ap₂ moveFlag e (ap statusCode f)) ∙ m .flag-set h)

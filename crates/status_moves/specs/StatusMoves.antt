@@ -17,6 +17,10 @@ use Rattle.coordinator.specs.Calls.{CoordinatorCall, callTyped, actionOf}
 use Rattle.coordinator.specs.Coordinator.{append}
 use Rattle.writable_logs.specs.Writer.{WriterItem, writes, AcceptedOpening, writerFrom}
 
+-- the table of an accepted opening
+abbrev pub openedTable : (text : List ℕ) (n : ℕ) → AcceptedOpening text n → Table
+openedTable text n log = writerFrom text n log .state .table
+
 -- the code of the status that a table holds of a name
 abbrev pub heldStatus : Table → List ℕ → ℕ
 heldStatus t name = statusCode (rowAt t (placeOf t name) .status)
@@ -30,11 +34,11 @@ pub record LetsFollow (held new : ℕ) : Type 0 where
   pub n : ℕ
   pub log : AcceptedOpening text n
   pub next : Record
-  pub name-held : holds (writerFrom text n log .state .table) (next .name) ≡ true
-  pub status-held : heldStatus (writerFrom text n log .state .table) (next .name) ≡ held
+  pub name-held : holds (openedTable text n log) (next .name) ≡ true
+  pub status-held : heldStatus (openedTable text n log) (next .name) ≡ held
   pub status-new : statusCode (next .status) ≡ new
   pub well-formed : wellFormed (parse text .catalogue) next ≡ true
-  pub may-come : mayCome (writerFrom text n log .state .table) next ≡ true
+  pub may-come : mayCome (openedTable text n log) next ≡ true
 
 -- "six rows of six flags, set exactly where …", of any table that has a flag for each row and column
 abbrev pub SetExactly : (ℕ → ℕ → Bool) → Type 0
@@ -45,9 +49,9 @@ SetExactly flag = (held new : ℕ) → held < statuses → new < statuses → (f
 -- the record of a row, beside what a table holds of its name
 pub record MakesSetMove (t : Table) (row : Row) : Type 0 where
   -- of a name that is held
-  pub moves : holds t (row .name) ≡ true → moveFlag (heldStatus t (row .name)) (statusCode (row .status)) ≡ true
+  pub flag-set : holds t (row .name) ≡ true → moveFlag (heldStatus t (row .name)) (statusCode (row .status)) ≡ true
   -- of a new name, which makes no move. Document 01: "first: status 0"
-  pub starts : holds t (row .name) ≡ false → row .status ≡ Empty
+  pub first-empty : holds t (row .name) ≡ false → row .status ≡ Empty
 
 -- in every state that an accepted opening and any calls, cuts and openings lead to, whatever call it is and whatever buffer it is lent
 abbrev pub AppendsSetMoves : Type 0
