@@ -3,3 +3,4 @@ pub mod Lines
 pub mod Themes
 pub mod Successions
 pub mod Bytes
+pub mod Demanded

@@ -13,3 +13,4 @@ pub mod NameLines
 pub mod Themes
 pub mod SuccessionLines
 pub mod BytesLines
+pub mod OlderLog
