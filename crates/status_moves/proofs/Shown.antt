@@ -98,11 +98,18 @@ shows held new =
     let next = successor held new in
     accepts held && holds t (next .name) && eqb (heldStatus t (next .name)) (statusCode held) && wellFormed sampleCatalogue next && mayCome t next
 
--- where a flag is set it does
+-- where a flag is set it does, and where it does the flag is set
 abbrev pub setIsShown : (held new : Status) → Bool
 setIsShown held new = not (moveFlag (statusCode held) (statusCode new)) || shows held new
 
--- computed over the whole table
+abbrev shownIsSet : (held new : Status) → Bool
+shownIsSet held new = not (shows held new) || moveFlag (statusCode held) (statusCode new)
+
+-- each computed over the whole table
 pub set-shown : everyStatus (λ held. everyStatus (setIsShown held)) ≡ true
 unfolding ones overwrite same bigEndian integerBytes untilZero members nameByte nameRun isLine lineAt isNew catalogueLines parse nameBytes key partitionBytes topicEntry topicBytes topicsBelow countBelow topics value frame framesOf firstWhere countWhere sumOf firstRefusal nameFits scanWithin placeOf lowestFree reserved apply readTests takeOverTests openTests opening readFrameWithin judged candidate wellFormed validName fieldsFit joinedFits startFits integerOf numberFrom walk past topicAt nameStands partitionsAt partitionsOf partitionsBelow withPartition mayCome succeeds first follows keeps mayFollowStatus initializes begins widens preparesCommit preparesAbort completes trailingZeros sample inactive active records logLength logBuffer successor openedLog accepts shows
 set-shown = refl
+
+pub shown-set : everyStatus (λ held. everyStatus (shownIsSet held)) ≡ true
+unfolding ones overwrite same bigEndian integerBytes untilZero members nameByte nameRun isLine lineAt isNew catalogueLines parse nameBytes key partitionBytes topicEntry topicBytes topicsBelow countBelow topics value frame framesOf firstWhere countWhere sumOf firstRefusal nameFits scanWithin placeOf lowestFree reserved apply readTests takeOverTests openTests opening readFrameWithin judged candidate wellFormed validName fieldsFit joinedFits startFits integerOf numberFrom walk past topicAt nameStands partitionsAt partitionsOf partitionsBelow withPartition mayCome succeeds first follows keeps mayFollowStatus initializes begins widens preparesCommit preparesAbort completes trailingZeros sample inactive active records logLength logBuffer successor openedLog accepts shows
+shown-set = refl
