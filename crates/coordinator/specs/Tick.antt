@@ -18,11 +18,11 @@ use Rattle.answers.specs.declared.TickAnswer.the-variants.{Aborted, NoneDue, Re
 use Rattle.coordinator.specs.Coordinator.{admits, unflushed, clockAt, Action, keep, advance, append}
 use Rattle.coordinator.specs.declared.Coordinator.{Coordinator}
 
--- what the age of a transaction is counted from: "clock − last update"
+-- what the age of a transaction is counted from; document 02, 2: "Tick now compares the clock with the start time."
 abbrev pub ageFrom : Row → ℕ
-ageFrom row = row .updated
+ageFrom row = row .start
 
--- "a flushed BEGIN and clock − last update above its timeout"
+-- "a flushed BEGIN and clock − …" start time "above its timeout"
 unfoldable pub overdue : ℕ → ℕ → Row → Bool
 overdue flushed clock row = isBegin (row .status) && not (unflushed flushed row) && ltb (row .timeout) (clock - ageFrom row)
 

@@ -64,7 +64,7 @@ clockLines =
     -- Init moved it to 300: the BEGIN at 100 is overdue at any time given
     line 2560 0 (begins (pos 50) ++ (call (initCall lab3 (pos 50) (pos 300)) ∷ [])) (tickAt 0) 0 (pos 0 ∷ []) 2 67 ∷
     line 2560 0 (begins (pos 50) ++ (call (initCall lab3 (pos 50) (pos 150)) ∷ [])) (tickAt 0) 0 [] 2 0 ∷
-    -- the age of a transaction whose last update is the greatest time is 0
+    -- the age of a transaction that began at the greatest time is 0
     line 2560 0 (opened ∷ initAt 1 9223372036854775807 ∷ flushed 53 ∷ addAt 0 1 0 ∷ flushed 120 ∷ []) (tickAt 9223372036854775807) 0 [] 1 0 ∷
     -- and of one that began at 0 it is the clock
     line 2560 0 (opened ∷ initAt 900000 0 ∷ flushed 53 ∷ addAt 0 1 0 ∷ flushed 120 ∷ []) (tickAt 9223372036854775807) 0 (pos 0 ∷ []) 1 67 ∷

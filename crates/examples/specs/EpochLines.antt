@@ -52,7 +52,7 @@ epochLines =
     line 2560 0 beginsOne (addAt 1 256 120) 0 [] 1 81 ∷
     line 2560 0 (beginsOne ++ (addAt 1 256 120 ∷ flushed 254 ∷ [])) (endAt 1 0 130) 0 [] 1 81 ∷
     line 2560 0 (beginsOne ++ (addAt 1 256 120 ∷ flushed 254 ∷ [])) (endAt 0 0 130) 11 [] 1 0 ∷
-    -- Tick: "clock − last update above its timeout", "epoch one higher"
+    -- Tick: its age "above its timeout", "epoch one higher"
     line 2560 0 beginsOne (tickAt 160) 0 [] 1 0 ∷
     line 2560 0 beginsOne (tickAt 161) 0 (pos 0 ∷ []) 1 67 ∷
     line 2560 0 ticksOne (orderCall 257) 0 (pos 0 ∷ pos 1000 ∷ pos 2 ∷ pos 1 ∷ pos 0 ∷ pos 1 ∷ []) 1 0 ∷

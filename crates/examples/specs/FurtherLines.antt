@@ -134,9 +134,9 @@ addLines =
     line 2560 0 (begins (pos 50)) (add7 2) 0 [] 1 71 ∷
     -- the log of a widened set opens, so the start was kept
     line 2560 0 (begins (pos 50) ++ (add7 256 ∷ [])) (reopened 201) 0 [] 1 0 ∷
-    -- a widening renews the last update: 110 and 50 are 160
-    line 2560 0 (begins (pos 50) ++ (add7 256 ∷ call (flushCall 201) ∷ [])) (call (tickCall (pos 160))) 0 [] 1 0 ∷
-    line 2560 0 (begins (pos 50) ++ (add7 256 ∷ call (flushCall 201) ∷ [])) (call (tickCall (pos 161))) 0 (pos 0 ∷ []) 1 81 ∷
+    -- a widening at 110 does not renew the age: 100 and 50 are 150
+    line 2560 0 (begins (pos 50) ++ (add7 256 ∷ call (flushCall 201) ∷ [])) (call (tickCall (pos 150))) 0 [] 1 0 ∷
+    line 2560 0 (begins (pos 50) ++ (add7 256 ∷ call (flushCall 201) ∷ [])) (call (tickCall (pos 151))) 0 (pos 0 ∷ []) 1 81 ∷
     -- "nothing is appended if all are joined"
     line 2560 0 (begins (pos 50)) (add7 1) 0 [] 1 0 ∷
     line 2560 0 (begins (pos 50) ++ (add7 256 ∷ call (flushCall 201) ∷ [])) (add7 1) 0 [] 1 0 ∷
@@ -186,9 +186,9 @@ tickLines =
     -- "a flushed BEGIN": one that is not flushed, or is widened and that is not, is passed over
     line 2560 0 (holds7 ++ (join ∷ [])) (call (tickCall (pos 100000))) 0 [] 1 0 ∷
     line 2560 0 (beginsBoth 1 ++ (add7 2 ∷ [])) (call (tickCall (pos 100000))) 0 (pos 1 ∷ []) 2 67 ∷
-    -- none moves the clock: the set is widened at 140, though the time given then is 0
-    line 2560 0 (begins (pos 50) ++ (call (tickCall (pos 140)) ∷ call (addCall rig7 (pos 1000) (pos 0) 256 (pos 0)) ∷ call (flushCall 201) ∷ [])) (call (tickCall (pos 190))) 0 [] 1 0 ∷
-    line 2560 0 (begins (pos 50) ++ (call (tickCall (pos 140)) ∷ call (addCall rig7 (pos 1000) (pos 0) 256 (pos 0)) ∷ call (flushCall 201) ∷ [])) (call (tickCall (pos 191))) 0 (pos 0 ∷ []) 1 81 ∷
+    -- none moves the clock: the transaction begins at 140, though the time given then is 0
+    line 2560 0 (holds7 ++ (call (tickCall (pos 140)) ∷ call (addCall rig7 (pos 1000) (pos 0) 1 (pos 0)) ∷ call (flushCall 120) ∷ [])) (call (tickCall (pos 190))) 0 [] 1 0 ∷
+    line 2560 0 (holds7 ++ (call (tickCall (pos 140)) ∷ call (addCall rig7 (pos 1000) (pos 0) 1 (pos 0)) ∷ call (flushCall 120) ∷ [])) (call (tickCall (pos 191))) 0 (pos 0 ∷ []) 1 67 ∷
     -- "The clock is the greater of its old value and the time given": after 151 a negative time is 151
     line 2560 0 (holds7 ++ (join ∷ call (tickCall (pos 151)) ∷ call (flushCall 120) ∷ [])) (call (tickCall (negsuc 99))) 0 (pos 0 ∷ []) 1 67 ∷
     -- the prepare needs no more than the reserve

@@ -10,6 +10,7 @@ pub mod PidLines
 pub mod PartitionLines
 pub mod LimitLines
 pub mod NameLines
+pub mod TimeoutLines
 pub mod Themes
 pub mod SuccessionLines
 pub mod BytesLines

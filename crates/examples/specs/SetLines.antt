@@ -55,8 +55,8 @@ setLines =
     line 2560 0 widensTwice (addAt 0 259 120) 0 [] 1 0 ∷
     line 2560 0 widensTwice (addAt 0 258 120) 0 [] 1 0 ∷
     line 2560 0 widensTwice (reopened 276) 0 [] 1 0 ∷
-    line 2560 0 widensTwice (tickAt 165) 0 [] 1 0 ∷
-    line 2560 0 widensTwice (tickAt 166) 0 (pos 0 ∷ []) 1 85 ∷
+    line 2560 0 widensTwice (tickAt 150) 0 [] 1 0 ∷
+    line 2560 0 widensTwice (tickAt 151) 0 (pos 0 ∷ []) 1 85 ∷
     line 2560 0 widensTwice (endAt 0 0 120) 0 [] 1 85 ∷
     []
 

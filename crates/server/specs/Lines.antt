@@ -1,6 +1,6 @@
 -- The table to be proved, T1 to T12: for each line the calls that lead to it, and what document 01 says of the last one; of T4 and T5 document 02.
 use Prim.Native.Nat.{ℕ, _-_, _*_}
-use mathlib.Core.List.{List, [], _∷_}
+use mathlib.Core.List.{List, [], _∷_, _++_}
 use lib.IntN.{ℤ, pos}
 use lib.ListN.{replicate, take, drop}
 use Rattle.numbers.specs.Ascii.{ascii}
@@ -93,6 +93,10 @@ join = call (addCall rig7 (pos 1000) (pos 0) 1 (pos 100))
 -- the calls that bring `rig7` into a flushed BEGIN with this timeout
 abbrev pub begins : ℤ → List Call
 begins timeout = opened ∷ openWords ∷ init7 timeout ∷ call (flushCall 53) ∷ join ∷ call (flushCall 120) ∷ []
+
+-- and that widen it at 140 by partition 1 of `scan`; the widening is not flushed
+abbrev pub widens : ℤ → List Call
+widens timeout = begins timeout ++ (call (addCall rig7 (pos 1000) (pos 0) 2 (pos 140)) ∷ [])
 
 abbrev pub put : Call
 put = produceCall rig7 (pos 1000) (pos 0) 0 (pos 0) 502
@@ -197,6 +201,9 @@ lines =
     line 2048 0 (begins (pos 50)) (call (tickCall (pos 150))) 0 [] 1 0 ∷
     -- "T11 Tick 151 aborts."
     line 2048 0 (begins (pos 50)) (call (tickCall (pos 151))) 0 (pos 0 ∷ []) 1 67 ∷
+    -- T11, document 02, 2: "In T11 a BEGIN widened at 140 is still aborted at 151.", and not at 150
+    line 2048 0 (widens (pos 50) ++ (call (flushCall 191) ∷ [])) (call (tickCall (pos 150))) 0 [] 1 0 ∷
+    line 2048 0 (widens (pos 50) ++ (call (flushCall 191) ∷ [])) (call (tickCall (pos 151))) 0 (pos 0 ∷ []) 1 71 ∷
     -- "T12 held epoch 32766, Init: new pid, epoch 0."
     lineFrom heldSpent [] (init7 (pos 60000)) 0 (pos 1001 ∷ pos 0 ∷ []) 1 53 ∷
     []

@@ -1,0 +1,1 @@
+-- Laws of the crate timeouts: the theorem of request 2 of document 02.

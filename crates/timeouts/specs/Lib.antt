@@ -1,0 +1,2 @@
+-- Definitions of the crate timeouts.
+pub mod Timeouts
