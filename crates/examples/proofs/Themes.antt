@@ -38,7 +38,7 @@ use Rattle.server.specs.Lines.{Line, outcome, afterAll}
 use Rattle.examples.specs.Starts.{framesInOrder}
 use Rattle.examples.specs.Held.{HeldLine, heldThen}
 use Rattle.examples.specs.LimitLines.{restLengths}
-use Rattle.examples.specs.Themes.{Theme, epochs, clock, sets, pids, markers, entries, catalogues, lastPositions, rests, lastPlace, names, alike, tornName, longest, timeouts, linesOf, heldLines}
+use Rattle.examples.specs.Themes.{Theme, epochs, clock, sets, pids, markers, entries, catalogues, lastPositions, rests, lastPlace, names, alike, tornName, longest, linesOf, heldLines}
 
 pub themes-hold : (t : Theme) → map outcome (linesOf t) ≡ map (λ (l : Line). l .expected) (linesOf t)
 unfolding outcome afterAll ones overwrite same bigEndian integerBytes untilZero members nameByte nameRun isLine lineAt isNew catalogueLines parse nameBytes key partitionBytes topicEntry topicBytes topicsBelow countBelow topics value frame firstWhere countWhere sumOf firstRefusal nameFits scanWithin placeOf lowestFree idCount reserved apply admits notHeld logFull appended readTests takeOverTests openTests opening initRow initTests initRowTests initAccepted init allJoined addRow addTests addRowTests addAction add overdue overduePlace tickTests tickAccepted tick flushTests flush openPartition openCount partitionAdmits lastSequence nextSequence produced partitionFull produceTests produceRowTests produce readFrameWithin judged candidate wellFormed validName fieldsFit joinedFits startFits integerOf numberFrom walk past topicAt nameStands partitionsAt partitionsOf partitionsBelow withPartition mayCome succeeds first follows keeps mayFollowStatus initializes begins widens preparesCommit preparesAbort completes ackTests ackRowTests ackAction ack acknowledged endFits endTests endRowTests endAction end ordered orderPlace order markerTests closed markerAction marker oldest nextMarker committed copy readOffsetTests readAnswer readOut trailingZeros framesInOrder
@@ -56,7 +56,6 @@ themes-hold names = refl
 themes-hold alike = refl
 themes-hold tornName = refl
 themes-hold longest = refl
-themes-hold timeouts = refl
 
 -- demand 2 takes for torn the rests with which these logs are opened, and no other of them
 pub rests-torn : map (λ (l : Line). isTornRest (l .start .log)) restLengths ≡ map (λ (l : Line). eqb (l .expected .number) 0) restLengths

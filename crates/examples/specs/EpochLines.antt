@@ -84,8 +84,8 @@ epochLines =
     writes (1000 ∷ 0 ∷ 140728898420739 ∷ 502 ∷ []) (from (beginTable 32766) (closedProducer 1000 32766 2) [] (produceCall rig7 (pos 1000) (pos 32766) 0 (pos 3) 502) 0 (pos 1 ∷ []) 1 0) ∷
     writes (1000 ∷ 2 ∷ 140733193388033 ∷ 0 ∷ []) (from (beginTable 32766) (closedProducer 1000 32766 2) (produceCall rig7 (pos 1000) (pos 32766) 0 (pos 3) 502 ∷ []) (markerCall 0 (pos 1000) (pos 32767) 1 (pos 1)) 0 [] 1 0) ∷
     -- 32766 is fenced to 32767, by Tick and by Init; no transaction begins with it, and the next Init gives a new pid
-    from (beginTable 32766) noProducer [] (tickAt 60090) 0 [] 1 0 ∷
-    from (beginTable 32766) noProducer [] (tickAt 60091) 0 (pos 0 ∷ []) 1 67 ∷
+    from (beginTable 32766) noProducer [] (tickAt 60080) 0 [] 1 0 ∷
+    from (beginTable 32766) noProducer [] (tickAt 60081) 0 (pos 0 ∷ []) 1 67 ∷
     from (beginTable 32766) noProducer ticksLast (orderCall 257) 0 (pos 0 ∷ pos 1000 ∷ pos 32767 ∷ pos 1 ∷ pos 0 ∷ pos 1 ∷ []) 1 0 ∷
     from (beginTable 32766) noProducer ticksLast (ackAt 32766 0) 11 [] 1 0 ∷
     from (beginTable 32766) noProducer ticksLast (ackAt 32767 0) 0 [] 1 53 ∷

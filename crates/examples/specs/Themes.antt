@@ -9,10 +9,10 @@ use Rattle.examples.specs.PidLines.{pidLines}
 use Rattle.examples.specs.PartitionLines.{markerPlaces, entryLines}
 use Rattle.examples.specs.LimitLines.{catalogueTexts, lastPosition, restLengths, lastPlaces}
 use Rattle.examples.specs.NameLines.{nameLengths, alikeNames, tornNames, longestFrames, nameHeld}
-use Rattle.examples.specs.TimeoutLines.{timeoutLines, timeoutHeld}
+use Rattle.examples.specs.TimeoutLines.{timeoutHeld}
 
 pub data Theme : Type 0 where
-  epochs clock sets pids markers entries catalogues lastPositions rests lastPlace names alike tornName longest timeouts : Theme
+  epochs clock sets pids markers entries catalogues lastPositions rests lastPlace names alike tornName longest : Theme
 
 abbrev pub linesOf : Theme → List Line
 linesOf epochs = epochLines
@@ -29,7 +29,6 @@ linesOf names = nameLengths
 linesOf alike = alikeNames
 linesOf tornName = tornNames
 linesOf longest = longestFrames
-linesOf timeouts = timeoutLines
 
 abbrev pub heldLines : List HeldLine
 heldLines = epochHeld ++ clockHeld ++ setHeld ++ nameHeld ++ timeoutHeld
