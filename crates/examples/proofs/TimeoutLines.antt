@@ -1,7 +1,7 @@
 -- The lines of timeouts hold.
 use mathlib.Core.Path.{_≡_, refl}
 use mathlib.Core.List.{map}
-use lib.Count.{ones, trailingZeros}
+use lib.Count.{ones}
 use Rattle.numbers.specs.Bytes.{overwrite, same}
 use Rattle.numbers.specs.Integers.{bigEndian, integerBytes, integerOf, numberFrom}
 use Rattle.numbers.specs.Padded.{untilZero}
@@ -10,7 +10,7 @@ use Rattle.catalogue.specs.Catalogue.{nameByte, nameRun, isLine, lineAt, isNew,
 use Rattle.record.specs.Record.{nameBytes, nameFits, validName, joinedFits, startFits, fieldsFit, wellFormed}
 use Rattle.record.specs.Frame.{key, partitionBytes, topicEntry, topicBytes, topicsBelow, countBelow, topics, value, frame}
 use Rattle.record.specs.Topics.{withPartition, partitionsBelow, partitionsOf, partitionsAt, nameStands, topicAt, past, walk}
-use Rattle.record.specs.Reading.{candidate, judged, readFrameWithin, isTornRest}
+use Rattle.record.specs.Reading.{candidate, judged, readFrameWithin}
 use Rattle.succession.specs.Moves.{mayFollowStatus}
 use Rattle.succession.specs.Succession.{first, initializes, begins, widens, preparesCommit, preparesAbort, completes, keeps, follows}
 use Rattle.search.specs.Search.{firstWhere, countWhere, sumOf}
@@ -26,17 +26,14 @@ use Rattle.coordinator.specs.Add.{allJoined, addRow, addRowTests, addTests, add
 use Rattle.coordinator.specs.Tick.{overdue, overduePlace, tickTests, tickAccepted, tick}
 use Rattle.coordinator.specs.Flush.{flushTests, flush}
 use Rattle.coordinator.specs.End.{endFits, endRowTests, endTests, endAction, end}
-use Rattle.coordinator.specs.Order.{ordered, orderPlace, order}
 use Rattle.coordinator.specs.Ack.{ackRowTests, ackTests, ackAction, ack}
-use Rattle.partition.specs.Partition.{openPartition, openCount, oldest, admits as partitionAdmits}
+use Rattle.partition.specs.Partition.{openPartition, openCount, admits as partitionAdmits}
 use Rattle.partition.specs.Marker.{markerTests, closed, markerAction, marker}
-use Rattle.partition.specs.Read.{nextMarker, committed, copy, readTests as readOffsetTests, readAnswer, readOut}
 use Rattle.partition.specs.Append.{lastSequence, nextSequence, produced, partitionFull}
 use Rattle.server.specs.Produce.{produceRowTests, produceTests, produce}
 use Rattle.server.specs.Lines.{Line, outcome, afterAll}
-use Rattle.examples.specs.Starts.{framesInOrder}
 use Rattle.examples.specs.TimeoutLines.{timeoutLines}
 
 pub timeout-lines-hold : map outcome timeoutLines ≡ map (λ (l : Line). l .expected) timeoutLines
-unfolding outcome afterAll ones overwrite same bigEndian integerBytes untilZero members nameByte nameRun isLine lineAt isNew catalogueLines parse nameBytes key partitionBytes topicEntry topicBytes topicsBelow countBelow topics value frame firstWhere countWhere sumOf firstRefusal nameFits scanWithin placeOf lowestFree idCount reserved apply admits notHeld logFull appended readTests takeOverTests openTests opening initRow initTests initRowTests initAccepted init allJoined addRow addTests addRowTests addAction add overdue overduePlace tickTests tickAccepted tick flushTests flush openPartition openCount partitionAdmits lastSequence nextSequence produced partitionFull produceTests produceRowTests produce readFrameWithin judged candidate wellFormed validName fieldsFit joinedFits startFits integerOf numberFrom walk past topicAt nameStands partitionsAt partitionsOf partitionsBelow withPartition mayCome succeeds first follows keeps mayFollowStatus initializes begins widens preparesCommit preparesAbort completes ackTests ackRowTests ackAction ack acknowledged endFits endTests endRowTests endAction end ordered orderPlace order markerTests closed markerAction marker oldest nextMarker committed copy readOffsetTests readAnswer readOut trailingZeros framesInOrder
+unfolding outcome afterAll ones overwrite same bigEndian integerBytes untilZero members nameByte nameRun isLine lineAt isNew catalogueLines parse nameBytes key partitionBytes topicEntry topicBytes topicsBelow countBelow topics value frame firstWhere countWhere sumOf firstRefusal nameFits scanWithin placeOf lowestFree idCount reserved apply admits notHeld logFull appended readTests takeOverTests openTests opening initRow initTests initRowTests initAccepted init allJoined addRow addTests addRowTests addAction add overdue overduePlace tickTests tickAccepted tick flushTests flush openPartition openCount partitionAdmits lastSequence nextSequence produced partitionFull produceTests produceRowTests produce readFrameWithin judged candidate wellFormed validName fieldsFit joinedFits startFits integerOf numberFrom walk past topicAt nameStands partitionsAt partitionsOf partitionsBelow withPartition mayCome succeeds first follows keeps mayFollowStatus initializes begins widens preparesCommit preparesAbort completes ackTests ackRowTests ackAction ack acknowledged endFits endTests endRowTests endAction end markerTests closed markerAction marker
 timeout-lines-hold = refl
