@@ -3,7 +3,7 @@
 use Prim.Native.Nat.{ℕ, _+_, _≤_, _<_, max}
 use mathlib.Core.Path.{_≡_}
 use mathlib.Core.Bool.{Bool, true, false, cond, _&&_}
-use mathlib.Core.List.{List, [], _∷_}
+use mathlib.Core.List.{List, [], _∷_, _++_}
 use mathlib.Core.Option.{Option, none, some}
 use lib.Dec.{eqb, ltb}
 use lib.IntN.{ℤ, pos}
@@ -13,7 +13,7 @@ use Rattle.numbers.specs.Signed.{fits, toNat}
 use Rattle.record.specs.Record.{idle, statusCode}
 use Rattle.record.specs.declared.Record.{Record}
 use Rattle.record.specs.declared.Status.the-variants.{PrepareAbort}
-use Rattle.search.specs.Search.{firstWhere, orElse, filter, found, Found}
+use Rattle.search.specs.Search.{firstWhere, orElse, filter, found, Found, Each}
 use Rattle.answers.specs.Answers.{Reply, accepted}
 use Rattle.row.specs.declared.Row.{Row}
 use Rattle.table.specs.Table.{rowAt}
@@ -56,9 +56,13 @@ names h = namesOf (contents (recordsOf h))
 abbrev pub duePlace : ℕ → History → ℕ
 duePlace clock h = firstWhere (isDue clock h) (names h)
 
--- the latest record at that place
+-- the name at a place
+abbrev pub nameAt : History → ℕ → List ℕ
+nameAt h place = getD (names h) place []
+
+-- the latest record at the lowest place that is due
 abbrev pub dueRecord : ℕ → History → Option Logged
-dueRecord clock h = latestOf (getD (names h) (duePlace clock h) []) h
+dueRecord clock h = latestOf (nameAt h (duePlace clock h)) h
 
 -- "gets PREPARE_ABORT, epoch one higher"; "Last update is the clock."; all else is as in the latest record
 abbrev pub abortOf : ℕ → Record → Record
@@ -86,6 +90,32 @@ pub record Ticks (clock : ℕ) (h : History) (answer : Reply) (after : History) 
   pub aborts : duePlace clock h < length (names h)
       → (answer ≡ accepted (pos (duePlace clock h) ∷ [])) × Found (λ (x : Logged). Appends h (abortOf clock (x .content)) after) (dueRecord clock h)
 
+-- ---- the same in time
+
+-- a name's transaction began at a with timeout d and was widened any number of times: its newest records are BEGINs, down to the one that began it
+pub record BeganAt (h : History) (name : List ℕ) (a d : ℕ) : Type 0 where
+  pub widenings : List Logged
+  pub first : Logged
+  pub older : List Logged
+  pub records : filter (isOf name) (recordsOf h) ≡ widenings ++ (first ∷ older)
+  pub begins : Each (λ (x : Logged). isBegin x ≡ true) (widenings ++ (first ∷ []))
+  pub before : (x : Logged) (rest : List Logged) → older ≡ x ∷ rest → isBegin x ≡ false
+  pub at : first .content .updated ≡ pos a
+  pub timeout : first .content .timeout ≡ pos d
+
+-- a Tick aborts the transaction of a place, or one at a lower place that is due
+pub record AbortsUpTo (clock : ℕ) (h : History) (answer : Reply) (place : ℕ) : Type 0 where
+  pub lowest : ℕ
+  pub up-to : lowest ≤ place
+  pub due : isDue clock h (nameAt h lowest) ≡ true
+  pub answers : answer ≡ accepted (pos lowest ∷ [])
+
+-- once the clock is above a + d and its latest record is flushed
+abbrev pub EndsInTime : ℕ → History → Reply → Type 0
+EndsInTime clock h answer =
+    (place a d : ℕ) → place < length (names h) → BeganAt h (nameAt h place) a d → found (isFlushed h) (latestOf (nameAt h place) h) ≡ true → a + d < clock
+    → AbortsUpTo clock h answer place
+
 -- ---- times
 
 -- the times of what is held: start, last update and clock, none of which is negative
@@ -104,3 +134,7 @@ pub record Timeouts : Type 0 where
   pub ticks : (o : FirstOpening) → Accepted o → (items : List Item) (s : Coordinator) → let w = run items (start o) in
       w .phase ≡ up s → (time : ℤ) → fits w64 time ≡ true
       → Ticks (max (s .clock) (toNat time)) (w .history) (answered (tickCall time) (record { state = s; log = w .log })) (step (call own (tickCall time)) w .history)
+  -- so no transaction that Ticks are called for goes on for ever. Not met by a Tick for which a widening renews the time.
+  pub ends-in-time : (o : FirstOpening) → Accepted o → (items : List Item) (s : Coordinator) → let w = run items (start o) in
+      w .phase ≡ up s → (time : ℤ) → fits w64 time ≡ true
+      → EndsInTime (max (s .clock) (toNat time)) (w .history) (answered (tickCall time) (record { state = s; log = w .log }))
