@@ -1,1 +1,2 @@
 -- Laws of the crate timeouts: the theorem of request 2 of document 02.
+mod EndsInTime
