@@ -1,4 +1,4 @@
--- Definitions of the crate runs: the world of runs, and demand 3 as a statement over it.
+-- Definitions of the crate runs: the world of runs, and as statements over it demand 3 and what else holds in every run.
 pub mod History
 pub mod Parties
 pub mod Effects
@@ -7,3 +7,4 @@ pub mod Demand3
 pub mod InEveryRun
 pub mod SameCalls
 pub mod Completing
+pub mod Timeouts

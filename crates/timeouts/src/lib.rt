@@ -1,1 +1,1 @@
-// When a transaction is aborted because its time is over, as definitions and theorems: the crate has no functions.
+// The theorem of timeouts, which holds in every run: the crate has no functions.

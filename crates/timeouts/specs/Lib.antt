@@ -1,2 +1,0 @@
--- Definitions of the crate timeouts.
-pub mod Timeouts
