@@ -1,1 +1,3 @@
 -- Laws of the crate timeouts: the theorem of request 2 of document 02.
+mod SameFirst
+mod Beginning
