@@ -29,21 +29,22 @@ use Rattle.runs.specs.History.{Logged, contents, isOf}
 use Rattle.runs.specs.Demand3.{Ends}
 use Rattle.protocol.specs.RecordsOfName.{latestIn}
 use Rattle.protocol.proofs.TableOfRecords.{table-lacks, next-follows}
-use Rattle.timeouts.specs.Timeouts.{isBegin as isBeginRecord, beginningOf}
+use Rattle.timeouts.specs.Timeouts.{beginningOf}
 
 -- ---- the records of a name
 
--- the first of those that pass is the one found
+-- what is found is the first of those that pass
 found-first : {A : Type 0} (p : A → Bool) (l : List A) (x : A) → find p l ≡ some x → (older : List A) × (filter p l ≡ x ∷ older)
 found-first p [] x e = find-nothing p x e
 found-first {A} p (y ∷ l) x e =
     either (p y) (λ t. (filter p l, filter-hit p y l t ∙ ap (λ (z : A). z ∷ filter p l) (some-same (sym (find-hit p y l t) ∙ e))))
     (λ f. let (older, is) = found-first p l x (sym (find-miss p y l f) ∙ e) in (older, filter-miss p y l f ∙ is))
 
+-- the history reads BEGIN by its code
 begin-code : (s : Status) → eqb (statusCode s) 1 ≡ isBegin s
 begin-code = each (λ s. eqb (statusCode s) 1 ≡ isBegin s) refl refl refl refl refl refl
 
--- one record more
+-- of one record more: a BEGIN goes on with what began before it, or begins
 begin-more : (x : Logged) (older : List Logged) (o : Option Logged) → isBegin (x .content .status) ≡ true → beginningOf older ≡ o → beginningOf (x ∷ older) ≡ orElse o (some x)
 unfolding beginningOf
 begin-more x older o b e = rw (begin-code (x .content .status), b, e) refl
@@ -58,7 +59,7 @@ other-more x older b = rw (begin-code (x .content .status), b) refl
 pub unbegun : (name : List ℕ) (l : List Logged) (x : Logged) → latestIn name l ≡ some x → isBegin (x .content .status) ≡ false → beginningOf (filter (isOf name) l) ≡ none
 unbegun name l x e b = let (older, is) = found-first (isOf name) l x e in ap beginningOf is ∙ other-more x older b
 
--- one is where it is a BEGIN, and this is the record with which it began
+-- one is where it is a BEGIN: the record with which it began has the BEGIN's start as last update, and its timeout
 pub record Began (name : List ℕ) (l : List Logged) (x : Logged) : Type 0 where
   pub first : Logged
   pub is : beginningOf (filter (isOf name) l) ≡ some first
@@ -76,7 +77,7 @@ module _ (c : Catalogue) (x : Logged) (l : List Logged) (come : allCome c emptyT
   over : (o : Option Logged) → beginningOf (filter (isOf name) l) ≡ o → beginningOf (filter (isOf name) (x ∷ l)) ≡ orElse o (some x)
   over o e = ap beginningOf (filter-hit (isOf name) x l own) ∙ begin-more x (filter (isOf name) l) o b e
 
-  -- it begins over an idle record, and is kept by a widening
+  -- a BEGIN over an idle record begins, and a widening keeps start and timeout
   begun-after : (r : Logged) → latestIn name l ≡ some r → (isBegin (r .content .status) ≡ true → Began name l r) → Began name (x ∷ l) x
   begun-after r e before = go (follows-move _ (held (r .content) (r .end)) (x .content) (next-follows c l come ends (x .content) formed comes r e))
     where
@@ -100,6 +101,7 @@ module _ (c : Catalogue) (x : Logged) (l : List Logged) (come : allCome c emptyT
       (λ lacking f room. not-both (ap isBegin (first-new (t .next) (x .content) f .0)) b))
       (λ r e. begun-after r e (before r e))
 
+-- the latest record of any name
 pub begun : (c : Catalogue) (name : List ℕ) (l : List Logged) → allCome c emptyTable (contents l) ≡ true → Ends c l → (x : Logged) → latestIn name l ≡ some x → isBegin (x .content .status) ≡ true
     → Began name l x
 begun c name [] e h x i b = find-nothing (isOf name) x i

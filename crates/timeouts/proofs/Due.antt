@@ -5,10 +5,9 @@ use mathlib.Core.Bool.{Bool, true, false, not, _&&_, and-false}
 use mathlib.Core.List.{List, []}
 use mathlib.Core.Option.{some}
 use native.Mathlib.Omega.{arith}
-use lib.Dec.{eqb, leb, ltb}
+use lib.Dec.{leb, ltb}
 use lib.ListN.{length, getD}
 use borrow.Author.Tests.{eqb-true, le-leb, lt-leb, lt-ltb, ltb-true, ltb-false}
-use Rattle.numbers.specs.Signed.{toNat}
 use Rattle.numbers.proofs.Tests.{either, same-test}
 use Rattle.catalogue.specs.declared.Catalogue.{Catalogue}
 use Rattle.search.specs.Search.{found}
@@ -21,16 +20,16 @@ use Rattle.table.specs.Table.{rowAt}
 use Rattle.coordinator.specs.Tick.{overdue, overduePlace}
 use Rattle.coordinator.specs.declared.Coordinator.{Coordinator}
 use Rattle.writable_logs.proofs.Places.{place-named, places-are}
-use Rattle.runs.specs.History.{History, Logged, recordsOf, contents, flushedOf, isFlushed, latestOf}
+use Rattle.runs.specs.History.{History, Logged, recordsOf, contents, isFlushed, latestOf}
 use Rattle.protocol.specs.HistoryInvariant.{HistoryInvariant}
 use Rattle.agreement.proofs.Invariant.{UpLog}
 use Rattle.agreement.proofs.FlushedFirst.{proper}
 use Rattle.agreement.proofs.LiveTable.{live-ready, live-row, starts-of, live-record-at}
-use Rattle.timeouts.specs.Timeouts.{beginning, outlived, isDue, names, duePlace}
+use Rattle.timeouts.specs.Timeouts.{isDue, names, duePlace}
 use Rattle.timeouts.proofs.SameFirst.{nowhere-either, found-either, same-first}
 use Rattle.timeouts.proofs.Beginning.{unbegun, begun}
 
--- ---- numbers
+-- ---- what is overdue, by the numbers of the row
 
 not-ltb : (a b : ℕ) → not (ltb a b) ≡ leb b a
 not-ltb a b = go (ltb a b) refl
@@ -39,21 +38,22 @@ not-ltb a b = go (ltb a b) refl
     go true e = sym (lt-leb b a (ltb-true a b e))
     go false e = sym (le-leb b a (ltb-false a b e))
 
--- an age above a number, which is none before the start, and a clock above a sum
+-- the age is above the timeout exactly where the clock is above the sum of start and timeout; ℕ's difference stops at 0
 ltb-minus : (start timeout clock : ℕ) → ltb timeout (clock - start) ≡ ltb (start + timeout) clock
 ltb-minus start timeout clock =
     same-test (ltb timeout (clock - start)) (ltb (start + timeout) clock) (λ e. lt-ltb (start + timeout) clock (omega (arith, ltb-true timeout (clock - start) e)))
     (λ e. lt-ltb timeout (clock - start) (omega (arith, ltb-true (start + timeout) clock e)))
 
--- a free row is not overdue
-idle-due : (flushed clock : ℕ) (row : Row) → isBegin (row .status) ≡ false → overdue flushed clock row ≡ false
+-- a row of another status is not overdue
+other-due : (flushed clock : ℕ) (row : Row) → isBegin (row .status) ≡ false → overdue flushed clock row ≡ false
 unfolding overdue
-idle-due flushed clock row b = rw b refl
+other-due flushed clock row b = rw b refl
 
 begin-due : (flushed clock : ℕ) (row : Row) → isBegin (row .status) ≡ true → overdue flushed clock row ≡ (leb (row .end) flushed && ltb (row .start + row .timeout) clock)
 unfolding overdue
 begin-due flushed clock row b = rw (b, not-ltb flushed (row .end), ltb-minus (row .start) (row .timeout) clock) refl
 
+-- what is acknowledged does not count
 same-due : (flushed clock : ℕ) (row : Row) → overdue flushed clock (withAcknowledged row 0) ≡ overdue flushed clock row
 unfolding overdue
 same-due flushed clock row = refl
@@ -68,12 +68,12 @@ module _ (c : Catalogue) (log : List ℕ) (s : Coordinator) (h : History) (u : U
       (λ b.
       let g = begun c name (recordsOf h) (t .come) (t .ends) x e b in
       begin-due (s .flushed) clock (held (x .content) (x .end)) b ∙ rw (e, g .is, u .flushed, g .started, g .same-timeout) refl)
-      (λ b. idle-due (s .flushed) clock (held (x .content) (x .end)) b ∙ rw (unbegun name (recordsOf h) x e b) (sym (and-false (found (isFlushed h) (latestOf name h)))))
+      (λ b. other-due (s .flushed) clock (held (x .content) (x .end)) b ∙ rw (unbegun name (recordsOf h) x e b) (sym (and-false (found (isFlushed h) (latestOf name h)))))
 
   free-due : (k : ℕ) → free (rowAt (s .table) k) ≡ true → overdue (s .flushed) clock (rowAt (s .table) k) ≡ false
   free-due k f =
       let row = rowAt (s .table) k in
-      idle-due (s .flushed) clock row (idle-unbegun (row .status) (proper s (live-ready c log s h u t) .each k f))
+      other-due (s .flushed) clock row (idle-unbegun (row .status) (proper s (live-ready c log s h u t) .each k f))
 
   -- a name that does not start has no record
   free-records : (k : ℕ) → free (rowAt (s .table) k) ≡ true → isDue clock h (rowAt (s .table) k .name) ≡ false
@@ -108,15 +108,15 @@ module _ (c : Catalogue) (log : List ℕ) (s : Coordinator) (h : History) (u : U
   pub due-nowhere : length (names h) ≤ duePlace clock h → places ≤ overduePlace s clock
   unfolding overduePlace
   due-nowhere n =
-      let m = nowhere-either (isDue clock h) (overdue (s .flushed) clock) (names h) (s .table .rows) [] freeRow named-due others-due (idle-due (s .flushed) clock freeRow refl) n in
+      let m = nowhere-either (isDue clock h) (overdue (s .flushed) clock) (names h) (s .table .rows) [] freeRow named-due others-due (other-due (s .flushed) clock freeRow refl) n in
       omega (arith, whole)
 
   pub due-within : duePlace clock h < length (names h) → overduePlace s clock < places
   unfolding overduePlace
   due-within n =
-      let m = found-either (isDue clock h) (overdue (s .flushed) clock) (names h) (s .table .rows) [] freeRow named-due others-due (idle-due (s .flushed) clock freeRow refl) n in
+      let m = found-either (isDue clock h) (overdue (s .flushed) clock) (names h) (s .table .rows) [] freeRow named-due others-due (other-due (s .flushed) clock freeRow refl) n in
       omega (arith, whole)
 
   pub due-there : duePlace clock h < length (names h) → overduePlace s clock ≡ duePlace clock h
   unfolding overduePlace
-  due-there n = same-first (isDue clock h) (overdue (s .flushed) clock) (names h) (s .table .rows) [] freeRow named-due others-due (idle-due (s .flushed) clock freeRow refl) n
+  due-there n = same-first (isDue clock h) (overdue (s .flushed) clock) (names h) (s .table .rows) [] freeRow named-due others-due (other-due (s .flushed) clock freeRow refl) n

@@ -6,7 +6,7 @@ use mathlib.Core.List.{List, [], _∷_}
 use mathlib.Core.Option.{some}
 use native.Mathlib.Omega.{arith}
 use lib.IntN.{ℤ, pos, negsuc}
-use lib.ListN.{length, getD}
+use lib.ListN.{length}
 use mir.Syntax.{w16, w32, w64}
 use borrow.Author.Tests.{eq-eqb}
 use Rattle.numbers.specs.Signed.{signedOf, laterOf, fits, toNat}
@@ -20,11 +20,10 @@ use Rattle.record.proofs.Bounds.{well-formed-parts}
 use Rattle.search.specs.Search.{Found}
 use Rattle.search.proofs.Found.{found-is}
 use Rattle.search.proofs.Find.{find-in}
-use Rattle.answers.specs.Answers.{Reply, accepted, tickReply}
-use Rattle.answers.specs.Limits.{places}
+use Rattle.answers.specs.Answers.{accepted, tickReply}
 use Rattle.answers.specs.Refusals.{firstRefusal, Decision}
 use Rattle.answers.specs.declared.TickAnswer.{TickAnswer}
-use Rattle.answers.specs.declared.TickAnswer.the-variants.{Aborted, NoneDue}
+use Rattle.answers.specs.declared.TickAnswer.the-variants.{Aborted}
 use Rattle.answers.proofs.Laws.{none-is}
 use Rattle.row.specs.Limits.{epochLast}
 use Rattle.row.specs.Row.{free, isBegin, held, recordOf}
@@ -35,13 +34,13 @@ use Rattle.table.specs.Table.{rowAt}
 use Rattle.table.proofs.Reserve.{busy-held}
 use Rattle.table.proofs.Unacknowledged.{plain-row}
 use Rattle.coordinator.specs.Calls.{tickCall, answered, actionOf}
-use Rattle.coordinator.specs.Coordinator.{logEnd, rowFrame, admits, clockAt, Action, advance, append}
+use Rattle.coordinator.specs.Coordinator.{logEnd, rowFrame, admits, clockAt, Action, append}
 use Rattle.coordinator.specs.Tick.{overduePlace, tickTests, tick}
 use Rattle.coordinator.specs.declared.Coordinator.{Coordinator}
 use Rattle.coordinator.proofs.Reserve.{admits-length}
 use Rattle.coordinator.proofs.TickCases.{overdue-found, tick-aborted, tick-none}
 use Rattle.runs.specs.History.{recordAppended, History, Logged, recordsOf, isOf, latestOf}
-use Rattle.runs.specs.World.{Phase, up, World, catalogueOf, FirstOpening, Accepted, start, own, Item, call, inLists, next, step, run, whileUp, coordinatorLent, historyAfter}
+use Rattle.runs.specs.World.{Phase, up, World, catalogueOf, FirstOpening, Accepted, start, own, Item, call, next, step, run, whileUp, coordinatorLent, historyAfter}
 use Rattle.runs.proofs.Admitted.{OwnState, OwnLog}
 use Rattle.protocol.specs.HistoryInvariant.{HistoryInvariant}
 use Rattle.protocol.proofs.TableOfRecords.{come-record}
@@ -51,6 +50,13 @@ use Rattle.agreement.proofs.LiveTable.{live-ready, live-record-at, RecordAt}
 use Rattle.agreement.proofs.Steps.{always}
 use Rattle.timeouts.specs.Timeouts.{names, duePlace, dueRecord, abortOf, Appends, Ticks}
 use Rattle.timeouts.proofs.Due.{name-at, whole, due-nowhere, due-within, due-there}
+
+-- ---- the clock
+
+-- the greater of a clock and a time, of which a negative one is 0
+later-max : (clock : ℕ) (time : ℤ) → laterOf clock time ≡ max clock (toNat time)
+later-max clock (pos n) = refl
+later-max clock (negsuc n) = omega arith
 
 -- ---- the record of an abort
 
@@ -151,11 +157,6 @@ module _ (c : Catalogue) (log : List ℕ) (s : Coordinator) (h : History) (u : U
   tick-does = record { none-due = none-answered; aborts = abort-answered }
 
 -- ---- a Tick in a world
-
--- the greater of a clock and a time, of which a negative one is 0
-later-max : (clock : ℕ) (time : ℤ) → laterOf clock time ≡ max clock (toNat time)
-later-max clock (pos n) = refl
-later-max clock (negsuc n) = omega arith
 
 module _ (w : World) (i : Invariant w) (s : Coordinator) (e : w .phase ≡ up s) (time : ℤ) (timed : fits w64 time ≡ true) where
   log-up : UpLog (catalogueOf w) (w .log) s (w .history)
