@@ -42,11 +42,6 @@ module _ (s : Coordinator) (clock : ℕ) where
         late = ltb-true (row .timeout) (clock - ageFrom row) (search (and-left, and-right) depth 8);
       }
 
-  -- for request 2 of 02
-  pub overdue-is : (row : Row) → Overdue row → overdue (s .flushed) clock row ≡ true
-  unfolding overdue
-  overdue-is row o = rw (o .begins, o .flushed, lt-ltb (row .timeout) (clock - ageFrom row) (o .late))
-
   pub overdue-lowest : (place : ℕ) → place < overduePlace s clock → overdue (s .flushed) clock (rowAt (s .table) place) ≡ false
   unfolding overduePlace
   overdue-lowest place h = first-before (overdue (s .flushed) clock) (s .table .rows) freeRow place h

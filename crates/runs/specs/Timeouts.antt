@@ -21,7 +21,7 @@ use Rattle.coordinator.specs.Calls.{tickCall, answered}
 use Rattle.coordinator.specs.declared.Coordinator.{Coordinator}
 use Rattle.writable_logs.specs.RecordsSay.{namesOf}
 use Rattle.runs.specs.History.{recordAppended, History, Logged, recordsOf, contents, isFlushed, isOf, latestOf}
-use Rattle.runs.specs.World.{up, World, FirstOpening, Accepted, start, own, Item, call, step, run}
+use Rattle.runs.specs.World.{up, FirstOpening, Accepted, start, own, Item, call, step, run}
 
 -- ---- what the history says of a transaction
 

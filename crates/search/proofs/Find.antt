@@ -112,3 +112,10 @@ pub filter-same : {A : Type 0} (p q : A → Bool) (l : List A) → Each (λ (x :
 unfolding filter
 filter-same p q [] i = refl
 filter-same p q (x ∷ l) (i, is) = rw (i, filter-same p q l is) refl
+
+-- what is found is the first of those that pass
+pub filter-found : {A : Type 0} (p : A → Bool) (l : List A) (x : A) → find p l ≡ some x → (rest : List A) × (filter p l ≡ x ∷ rest)
+filter-found p [] x e = find-nothing p x e
+filter-found {A} p (y ∷ l) x e =
+    either (p y) (λ t. (filter p l, filter-hit p y l t ∙ ap (λ (z : A). z ∷ filter p l) (some-same (sym (find-hit p y l t) ∙ e))))
+    (λ f. let (rest, is) = filter-found p l x (sym (find-miss p y l f) ∙ e) in (rest, filter-miss p y l f ∙ is))

@@ -4,3 +4,4 @@ pub mod Each
 pub mod Found
 pub mod Members
 pub mod Find
+pub mod SameFirst

@@ -11,5 +11,5 @@ mod ClockCall
 mod Acks
 mod Completing
 pub mod CouldWrite
-mod Places
+pub mod Places
 pub mod Demand2
