@@ -1,2 +1,3 @@
 -- Definitions of the crate timeouts.
 pub mod Timeouts
+pub mod FalseTicks
