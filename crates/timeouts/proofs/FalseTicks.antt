@@ -2,8 +2,7 @@
 use Prim.Native.Nat.{ℕ}
 use mathlib.Core.Path.{_≡_, refl, sym, ap, _∙_}
 use mathlib.Core.Bool.{Bool, true, false, true≢false}
-use mathlib.Core.List.{[], _∷_}
-use lib.Dec.{eqb, leb, ltb}
+use lib.Dec.{eqb}
 use lib.IntN.{pos}
 use lib.ListN.{length, getD}
 use borrow.Author.Tests.{leb-true, ltb-true, le-leb, lt-ltb}
@@ -11,12 +10,12 @@ use Rattle.numbers.specs.Signed.{eqZ}
 use Rattle.numbers.specs.Bytes.{same}
 use Rattle.record.specs.Record.{statusCode}
 use Rattle.record.specs.declared.Record.{Record}
-use Rattle.search.specs.Search.{firstWhere, find, filter, found, Found}
-use Rattle.answers.specs.Answers.{Reply, accepted}
+use Rattle.search.specs.Search.{firstWhere, find, filter, found}
+use Rattle.answers.specs.Answers.{Reply}
 use Rattle.writable_logs.specs.RecordsSay.{hasName, namesOf}
 use Rattle.runs.specs.History.{History, Logged, recordsOf, flushedOf, latestOf}
-use Rattle.timeouts.specs.Timeouts.{beginningOf, names, duePlace, dueRecord, abortOf, Appends}
-use Rattle.timeouts.specs.FalseTicks.{Tick, IsRight, name7, FalseTick, fromLastUpdate, renewedStart, fromTransactionBefore, atTheTimeout, unflushedWidening, preparedAborted, higherPlace, bothAborted, otherPlace, epochKept, oldClock, otherStart, narrowerSet, committed, silent, spuriousRecord, falseTick, TrueTick, stillInTime, outlivedTimeout, trueTick}
+use Rattle.timeouts.specs.Timeouts.{beginningOf}
+use Rattle.timeouts.specs.FalseTicks.{IsRight, name7, FalseTick, fromLastUpdate, renewedStart, fromTransactionBefore, atTheTimeout, unflushedWidening, preparedAborted, higherPlace, bothAborted, otherPlace, epochKept, oldClock, otherStart, narrowerSet, committed, silent, spuriousRecord, falseTick, TrueTick, stillInTime, outlivedTimeout, trueTick}
 
 -- two values that a test tells apart are not equal
 apart : {A : Type 0} (t : A → Bool) {a b : A} → t a ≡ true → t b ≡ false → a ≡ b → ⊥
@@ -35,44 +34,27 @@ answersPlace place r = eqZ (getD (r .results) 0 (pos 0)) (pos place)
 abbrev latestHas : (Record → Bool) → History → Bool
 latestHas test h = found (λ (x : Logged). test (x .content)) (latestOf name7 h)
 
--- ---- what a right Tick does
-
-module _ (t : Tick) (r : IsRight t) where
-  -- where none is due
-  none-answered : leb (length (names (t .before))) (duePlace (t .clock) (t .before)) ≡ true → t .answer ≡ accepted []
-  none-answered e = r .none-due (leb-true _ _ e) .0
-
-  none-appended : leb (length (names (t .before))) (duePlace (t .clock) (t .before)) ≡ true → t .after ≡ t .before
-  none-appended e = r .none-due (leb-true _ _ e) .1
-
-  -- where a place is due
-  place-answered : ltb (duePlace (t .clock) (t .before)) (length (names (t .before))) ≡ true → t .answer ≡ accepted (pos (duePlace (t .clock) (t .before)) ∷ [])
-  place-answered e = r .aborts (ltb-true _ _ e) .0
-
-  abort-appended : ltb (duePlace (t .clock) (t .before)) (length (names (t .before))) ≡ true
-      → Found (λ (x : Logged). Appends (t .before) (abortOf (t .clock) (x .content)) (t .after)) (dueRecord (t .clock) (t .before))
-  abort-appended e = r .aborts (ltb-true _ _ e) .1
-
 -- ---- the false Ticks and the true ones
 
+-- `0 < 1` says that place 0 of one is due, and `1 ≤ 1` that none of one is
 pub false-ticks : (x : FalseTick) → IsRight (falseTick x) → ⊥
 unfolding beginningOf hasName namesOf recordsOf flushedOf firstWhere find filter same
-false-ticks fromLastUpdate = λ r. apart answersNone refl refl (place-answered _ r refl)
-false-ticks renewedStart = λ r. apart answersNone refl refl (place-answered _ r refl)
-false-ticks fromTransactionBefore = λ r. apart answersNone refl refl (sym (none-answered _ r refl))
-false-ticks atTheTimeout = λ r. apart answersNone refl refl (sym (none-answered _ r refl))
-false-ticks unflushedWidening = λ r. apart answersNone refl refl (sym (none-answered _ r refl))
-false-ticks preparedAborted = λ r. apart answersNone refl refl (sym (none-answered _ r refl))
-false-ticks higherPlace = λ r. apart (answersPlace 1) refl refl (place-answered _ r refl)
-false-ticks bothAborted = λ r. let (end, e) = abort-appended _ r refl in apart (λ (h : History). eqb (length h) 11) refl refl e
-false-ticks otherPlace = λ r. apart (answersPlace 1) refl refl (place-answered _ r refl)
-false-ticks epochKept = λ r. let (end, e) = abort-appended _ r refl in apart (latestHas (λ (x : Record). eqZ (x .epoch) (pos 0))) refl refl e
-false-ticks oldClock = λ r. let (end, e) = abort-appended _ r refl in apart (latestHas (λ (x : Record). eqZ (x .updated) (pos 140))) refl refl e
-false-ticks otherStart = λ r. let (end, e) = abort-appended _ r refl in apart (latestHas (λ (x : Record). eqZ (x .start) (pos 151))) refl refl e
-false-ticks narrowerSet = λ r. let (end, e) = abort-appended _ r refl in apart (latestHas (λ (x : Record). eqb (x .joined) 1)) refl refl e
-false-ticks committed = λ r. let (end, e) = abort-appended _ r refl in apart (latestHas (λ (x : Record). eqb (statusCode (x .status)) 2)) refl refl e
-false-ticks silent = λ r. apart answersNone refl refl (place-answered _ r refl)
-false-ticks spuriousRecord = λ r. apart (λ (h : History). eqb (length h) 8) refl refl (none-appended _ r refl)
+false-ticks fromLastUpdate = λ r. apart answersNone refl refl (r .aborts (ltb-true 0 1 refl) .0)
+false-ticks renewedStart = λ r. apart answersNone refl refl (r .aborts (ltb-true 0 1 refl) .0)
+false-ticks fromTransactionBefore = λ r. apart answersNone refl refl (sym (r .none-due (leb-true 1 1 refl) .0))
+false-ticks atTheTimeout = λ r. apart answersNone refl refl (sym (r .none-due (leb-true 1 1 refl) .0))
+false-ticks unflushedWidening = λ r. apart answersNone refl refl (sym (r .none-due (leb-true 1 1 refl) .0))
+false-ticks preparedAborted = λ r. apart answersNone refl refl (sym (r .none-due (leb-true 1 1 refl) .0))
+false-ticks higherPlace = λ r. apart (answersPlace 1) refl refl (r .aborts (ltb-true 0 2 refl) .0)
+false-ticks bothAborted = λ r. let (end, e) = r .aborts (ltb-true 0 2 refl) .1 in apart (λ (h : History). eqb (length h) 11) refl refl e
+false-ticks otherPlace = λ r. apart (answersPlace 1) refl refl (r .aborts (ltb-true 0 1 refl) .0)
+false-ticks epochKept = λ r. let (end, e) = r .aborts (ltb-true 0 1 refl) .1 in apart (latestHas (λ (x : Record). eqZ (x .epoch) (pos 0))) refl refl e
+false-ticks oldClock = λ r. let (end, e) = r .aborts (ltb-true 0 1 refl) .1 in apart (latestHas (λ (x : Record). eqZ (x .updated) (pos 140))) refl refl e
+false-ticks otherStart = λ r. let (end, e) = r .aborts (ltb-true 0 1 refl) .1 in apart (latestHas (λ (x : Record). eqZ (x .start) (pos 151))) refl refl e
+false-ticks narrowerSet = λ r. let (end, e) = r .aborts (ltb-true 0 1 refl) .1 in apart (latestHas (λ (x : Record). eqb (x .joined) 1)) refl refl e
+false-ticks committed = λ r. let (end, e) = r .aborts (ltb-true 0 1 refl) .1 in apart (latestHas (λ (x : Record). eqb (statusCode (x .status)) 2)) refl refl e
+false-ticks silent = λ r. apart answersNone refl refl (r .aborts (ltb-true 0 1 refl) .0)
+false-ticks spuriousRecord = λ r. apart (λ (h : History). eqb (length h) 8) refl refl (r .none-due (leb-true 1 1 refl) .1)
 
 pub true-ticks : (x : TrueTick) → IsRight (trueTick x)
 unfolding beginningOf hasName namesOf recordsOf flushedOf firstWhere find filter same

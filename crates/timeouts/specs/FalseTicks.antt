@@ -30,11 +30,11 @@ IsRight t = Ticks (t .clock) (t .before) (t .answer) (t .after)
 abbrev pub name7 : List ℕ
 name7 = padded nameMax (ascii "rig7")
 
-abbrev pub name3 : List ℕ
+abbrev name3 : List ℕ
 name3 = padded nameMax (ascii "lab3")
 
 -- a record with timeout 50, by name, pid, status, epoch, set, last update and start
-abbrev pub recordNamed : List ℕ → ℕ → Status → ℕ → ℕ → ℕ → ℕ → Record
+abbrev recordNamed : List ℕ → ℕ → Status → ℕ → ℕ → ℕ → ℕ → Record
 recordNamed name pid status epoch joined updated start =
     record {
       name = name;
@@ -48,71 +48,71 @@ recordNamed name pid status epoch joined updated start =
     }
 
 -- one of `rig7`, and one of `lab3`
-abbrev pub record7 : Status → ℕ → ℕ → ℕ → ℕ → Record
+abbrev record7 : Status → ℕ → ℕ → ℕ → ℕ → Record
 record7 = recordNamed name7 1000
 
-abbrev pub record3 : Status → ℕ → ℕ → ℕ → ℕ → Record
+abbrev record3 : Status → ℕ → ℕ → ℕ → ℕ → Record
 record3 = recordNamed name3 1001
 
 -- a record is appended, and flushed
-abbrev pub flushed : Record → ℕ → History → History
+abbrev flushed : Record → ℕ → History → History
 flushed r end h = logFlushed end ∷ recordAppended r end ∷ h
 
 -- `rig7` begins at 100
-abbrev pub begun : History
+abbrev begun : History
 begun = flushed (record7 Begin 0 1 100 100) 120 (flushed (record7 Empty 0 0 100 100) 53 (logOpened (pos 1) ∷ []))
 
 -- and is widened at 140
-abbrev pub widening : Record
+abbrev widening : Record
 widening = record7 Begin 0 3 140 100
 
-abbrev pub widened : History
+abbrev widened : History
 widened = flushed widening 191 begun
 
 -- it is widened with a start that is that of the widening
-abbrev pub renewed : History
+abbrev renewed : History
 renewed = flushed (record7 Begin 0 3 140 140) 191 begun
 
 -- it is widened, and that is not flushed
-abbrev pub unflushed : History
+abbrev unflushed : History
 unflushed = recordAppended widening 191 ∷ begun
 
 -- it is widened, and prepared at 145
-abbrev pub prepared : History
+abbrev prepared : History
 prepared = flushed (record7 PrepareCommit 0 3 145 100) 262 widened
 
 -- its transaction of 100 is completed, and the next begins at 130
-abbrev pub begunAgain : History
+abbrev begunAgain : History
 begunAgain = flushed (record7 Begin 0 1 130 130) 307 (flushed (record7 CompleteCommit 0 0 120 100) 240 (flushed (record7 PrepareCommit 0 1 110 100) 187 begun))
 
 -- `rig7` at place 0 and `lab3` at place 1 both begin at 100
-abbrev pub bothBegun : History
+abbrev bothBegun : History
 bothBegun = flushed (record3 Begin 0 1 100 100) 226 (flushed (record3 Empty 0 0 100 100) 173 begun)
 
 -- ---- Ticks
 
 -- no place is answered
-abbrev pub nothingDue : Reply
+abbrev nothingDue : Reply
 nothingDue = accepted []
 
 -- this place is answered
-abbrev pub aborted : ℕ → Reply
+abbrev aborted : ℕ → Reply
 aborted place = accepted (pos place ∷ [])
 
 -- one that finds nothing
-abbrev pub findsNothing : ℕ → History → Tick
+abbrev findsNothing : ℕ → History → Tick
 findsNothing clock h = record { clock = clock; before = h; answer = nothingDue; after = h }
 
 -- one that answers this place, and appends this record, which ends at this length
-abbrev pub answering : ℕ → History → ℕ → Record → ℕ → Tick
+abbrev answering : ℕ → History → ℕ → Record → ℕ → Tick
 answering clock h place r end = record { clock = clock; before = h; answer = aborted place; after = recordAppended r end ∷ h }
 
 -- one at 151 that answers place 0 of the widened history, and appends this record
-abbrev pub appending : Record → Tick
+abbrev appending : Record → Tick
 appending r = answering 151 widened 0 r 262
 
 -- the abort of what was widened, at this clock
-abbrev pub abortAt : ℕ → Record
+abbrev abortAt : ℕ → Record
 abortAt clock = record7 PrepareAbort 1 3 clock 100
 
 pub data FalseTick : Type 0 where
