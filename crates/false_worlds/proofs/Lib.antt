@@ -10,3 +10,4 @@ pub mod Slices
 pub mod Tables
 pub mod Unwritten
 pub mod Pids
+pub mod Ticks

@@ -6,3 +6,4 @@ pub mod Records
 pub mod Fits
 pub mod Unacknowledged
 pub mod Valid
+pub mod Times
