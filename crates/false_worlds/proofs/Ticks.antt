@@ -16,7 +16,7 @@ use Rattle.search.specs.Search.{firstWhere, find, filter, found}
 use Rattle.answers.specs.Answers.{Reply, accepted}
 use Rattle.writable_logs.specs.RecordsSay.{hasName, namesOf}
 use Rattle.runs.specs.History.{History, Logged, recordsOf, flushedOf, latestOf}
-use Rattle.runs.specs.Timeouts.{beginningOf, EndsInTime, InOrder}
+use Rattle.runs.specs.Timeouts.{beginningOf, EndsInTime, TimesInOrder}
 use Rattle.false_worlds.specs.Ticks.{IsRight, widened, FalseTick, fromLastUpdate, renewedStart, fromTransactionBefore, atTheTimeout, unflushedWidening, preparedAborted, higherPlace, bothAborted, otherPlace, epochKept, oldClock, otherStart, narrowerSet, committed, silent, spuriousRecord, falseTick, TrueTick, stillInTime, outlivedTimeout, trueTick, FalseTimes, startedLater, updatedLater, falseTimes}
 use Rattle.false_worlds.specs.Histories.{name7}
 use Rattle.false_worlds.proofs.Differ.{apart, above}
@@ -73,7 +73,7 @@ widened-ended answer ends =
       first = _;
       older = _ ∷ [];
       records = refl;
-      begins = (refl, refl, tt);
+      begins = (refl, (refl, tt));
       before = λ x rest e. ap (λ (l : List Logged). eqb (statusCode (getD l 0 x .content .status)) 1) (sym e);
       at = refl;
       timeout = refl;
@@ -84,6 +84,6 @@ widened-ended answer ends =
 
 -- ---- times
 
-pub not-in-order : (x : FalseTimes) → InOrder 151 (falseTimes x) → ⊥
+pub not-in-order : (x : FalseTimes) → TimesInOrder 151 (falseTimes x) → ⊥
 not-in-order startedLater = λ o. above 141 140 refl (o .started)
 not-in-order updatedLater = λ o. above 152 151 refl (o .updated-by)

@@ -1,8 +1,8 @@
 -- What the demands, taken as premises, say of the example: a demand whose statement is emptied, or has a premise that the example does not meet, fails here.
-use Prim.Native.Nat.{ℕ, _+_}
-use mathlib.Core.Bool.{true}
+use Prim.Native.Nat.{ℕ, _+_, max}
+use mathlib.Core.Bool.{true, false}
 use mathlib.Core.List.{List, [], _∷_, _++_}
-use lib.IntN.{pos}
+use lib.IntN.{ℤ, pos}
 use lib.ListN.{length, take}
 use Rattle.coordinator.specs.declared.Coordinator.{Coordinator}
 use Rattle.writable_logs.specs.Demand2.{Demand2, InOrder, Openable, FirstBad, TableSays, ReadsBack, writtenBy, OpensAgain}
@@ -12,20 +12,23 @@ use Rattle.server.specs.Lines.{scanText, afterAll}
 use Rattle.server.specs.Calls.{Server, Call, call, orderCall, answerOf, afterCall}
 use Rattle.server.specs.Demand1.{Demand1}
 use Rattle.server.specs.Admitted.{Admitted, Admits, Next, afterEach, openedWith}
-use Rattle.coordinator.specs.Calls.{flushCall}
+use Rattle.coordinator.specs.Calls.{tickCall, flushCall, answered}
 use Rattle.coordinator.specs.Coordinator.{logEnd}
-use Rattle.runs.specs.World.{Accepted, start, up, Item, cut}
+use Rattle.runs.specs.World.{Accepted, start, up, own, Item, call as called, cut, step}
 use Rattle.runs.specs.Completing.{Completing, carryEach, ordersLeft, AllCompleted}
 use Rattle.runs.specs.Demand3.{Demand3, Promised}
 use Rattle.runs.specs.InEveryRun.{InEveryRun, AdmitsExactly, ReadsCommitted, PidsOnce}
+use Rattle.runs.specs.Timeouts.{Timeouts, TimesInOrder, Ticks, EndsInTime}
 use mathlib.Core.Path.{_≡_, refl}
 use lib.Count.{ones, trailingZeros}
+use mir.Syntax.{w64}
+use Rattle.numbers.specs.Signed.{fits, toNat}
 use Rattle.numbers.specs.Bytes.{overwrite, same}
 use Rattle.numbers.specs.Integers.{bigEndian, integerBytes, integerOf, numberFrom}
 use Rattle.numbers.specs.Padded.{untilZero}
 use Rattle.bits.specs.Bits.{members}
 use Rattle.catalogue.specs.Catalogue.{nameByte, nameRun, isLine, lineAt, isNew, lines as catalogueLines, parse}
-use Rattle.record.specs.Record.{nameBytes, nameFits, validName, joinedFits, startFits, fieldsFit, wellFormed}
+use Rattle.record.specs.Record.{idle, nameBytes, nameFits, validName, joinedFits, startFits, fieldsFit, wellFormed}
 use Rattle.record.specs.Frame.{key, partitionBytes, topicEntry, topicBytes, topicsBelow, countBelow, topics, value, frame}
 use Rattle.record.specs.Topics.{withPartition, partitionsBelow, partitionsOf, partitionsAt, nameStands, topicAt, past, walk}
 use Rattle.record.specs.Reading.{candidate, judged, readFrame, readFrameWithin, whole}
@@ -38,7 +41,7 @@ use Rattle.answers.specs.Refusals.{firstRefusal, among}
 use Rattle.table.specs.Next.{succeeds, mayCome}
 use Rattle.log_reader.specs.Read.{readTests}
 use Rattle.log_reader.specs.Scan.{scanWithin}
-use Rattle.table.specs.Table.{placeOf, lowestFree, idCount, reserved, apply}
+use Rattle.table.specs.Table.{rowAt, placeOf, lowestFree, idCount, reserved, apply}
 use Rattle.coordinator.specs.Coordinator.{admits, notHeld, logFull, appended, acknowledged}
 use Rattle.coordinator.specs.Open.{takeOverTests, openTests, opening, takenOver}
 use Rattle.coordinator.specs.Init.{initRow, initRowTests, initTests, initAccepted, init}
@@ -58,6 +61,7 @@ use Rattle.runs.specs.History.{collect, collectWithBefore, endingBy, recordsOf,
 use Rattle.runs.specs.World.{openLeaders, run, recordsRead}
 use Rattle.run_examples.specs.Runs.{lengthLeft, opened, shared, straight, afterCut, afterShared, openedLater, writerItems, leftRecords, leftRest}
 use Rattle.run_examples.specs.Examples.{cutRunItems}
+use Rattle.run_examples.specs.Timeouts.{flushed, itemsOf, afterWidening}
 
 -- the first openings are accepted
 pub opened-accepted : Accepted opened
@@ -92,6 +96,20 @@ demanded-reads r = r .reads-committed opened opened-accepted shared
 
 pub demanded-pids : InEveryRun → PidsOnce afterShared
 demanded-pids r = r .pids-once opened opened-accepted shared
+
+-- timeouts: at the moment when the transaction of the example is widened and flushed
+pub demanded-times : Timeouts → (s : Coordinator) → afterWidening .phase ≡ up s → (place : ℕ) → idle (rowAt (s .table) place .status) ≡ false
+    → TimesInOrder (s .clock) (rowAt (s .table) place)
+demanded-times t = t .in-order opened opened-accepted (itemsOf flushed)
+
+pub demanded-ticks : Timeouts → (s : Coordinator) → afterWidening .phase ≡ up s → (time : ℤ) → fits w64 time ≡ true
+    → Ticks (max (s .clock) (toNat time)) (afterWidening .history) (answered (tickCall time) (record { state = s; log = afterWidening .log }))
+    (step (called own (tickCall time)) afterWidening .history)
+demanded-ticks t = t .ticks opened opened-accepted (itemsOf flushed)
+
+pub demanded-in-time : Timeouts → (s : Coordinator) → afterWidening .phase ≡ up s → (time : ℤ) → fits w64 time ≡ true
+    → EndsInTime (max (s .clock) (toNat time)) (afterWidening .history) (answered (tickCall time) (record { state = s; log = afterWidening .log }))
+demanded-in-time t = t .ends-in-time opened opened-accepted (itemsOf flushed)
 
 -- demand 2: what the cut left is opened, and what was not opened could not have been written
 module _ (d : Demand2) (log : List ℕ) (i : InOrder scanText log lengthLeft (pos 2) (pos 1000) (pos 1999)) where

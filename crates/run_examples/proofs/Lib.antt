@@ -5,3 +5,4 @@ pub mod Promised
 pub mod Values
 pub mod Demanded
 pub mod Lists
+pub mod Timeouts

@@ -4,3 +4,4 @@ pub mod Runs
 pub mod Examples
 pub mod Values
 pub mod Lists
+pub mod Timeouts

@@ -119,7 +119,7 @@ EndsInTime clock h answer =
 -- ---- times
 
 -- the times of what is held: start, last update and clock, none of which is negative
-pub record InOrder (clock : ℕ) (row : Row) : Type 0 where
+pub record TimesInOrder (clock : ℕ) (row : Row) : Type 0 where
   pub started : row .start ≤ row .updated
   pub updated-by : row .updated ≤ clock
 
@@ -129,7 +129,7 @@ pub record InOrder (clock : ℕ) (row : Row) : Type 0 where
 pub record Timeouts : Type 0 where
   -- whatever is held in status 1 to 3
   pub in-order : (o : FirstOpening) → Accepted o → (items : List Item) (s : Coordinator) → run items (start o) .phase ≡ up s
-      → (place : ℕ) → idle (rowAt (s .table) place .status) ≡ false → InOrder (s .clock) (rowAt (s .table) place)
+      → (place : ℕ) → idle (rowAt (s .table) place .status) ≡ false → TimesInOrder (s .clock) (rowAt (s .table) place)
   -- a Tick at any time: "The clock is the greater of its old value and the time given"
   pub ticks : (o : FirstOpening) → Accepted o → (items : List Item) (s : Coordinator) → let w = run items (start o) in
       w .phase ≡ up s → (time : ℤ) → fits w64 time ≡ true

@@ -14,10 +14,10 @@ use Rattle.runs.specs.History.{recordsOf, contents}
 use Rattle.runs.specs.World.{Phase, up, catalogueOf, FirstOpening, Accepted, start, Item, run}
 use Rattle.agreement.proofs.Invariant.{UpLog, LogSide}
 use Rattle.agreement.proofs.Steps.{always}
-use Rattle.runs.specs.Timeouts.{InOrder}
+use Rattle.runs.specs.Timeouts.{TimesInOrder}
 
 pub times-in-order : (o : FirstOpening) → Accepted o → (items : List Item) (s : Coordinator) → run items (start o) .phase ≡ up s
-    → (place : ℕ) → idle (rowAt (s .table) place .status) ≡ false → InOrder (s .clock) (rowAt (s .table) place)
+    → (place : ℕ) → idle (rowAt (s .table) place .status) ≡ false → TimesInOrder (s .clock) (rowAt (s .table) place)
 times-in-order o a items s u place busy =
     let w = run items (start o) in
     let c = catalogueOf w in
