@@ -64,9 +64,9 @@ true-ticks outlivedTimeout = record { none-due = λ l. absurd (true≢false (sym
 -- ---- in time
 
 -- what `EndsInTime` says of the transaction that began at 100 with timeout 50 and was widened once, at clock 151
-pub widened-ended : (answer : Reply) → EndsInTime 151 widened answer → answer ≡ accepted (pos 0 ∷ [])
+pub widened-ended : (answer : Reply) (after : History) → EndsInTime 151 widened answer after → answer ≡ accepted (pos 0 ∷ [])
 unfolding beginningOf hasName namesOf recordsOf flushedOf firstWhere find filter same
-widened-ended answer ends =
+widened-ended answer after ends =
     let aborted = ends 0 100 50 (ltb-true 0 1 refl)
     (record {
       widenings = _ ∷ [];

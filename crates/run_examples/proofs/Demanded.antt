@@ -100,16 +100,17 @@ demanded-pids r = r .pids-once opened opened-accepted shared
 -- timeouts: at the moment when the transaction of the example is widened and flushed
 pub demanded-times : Timeouts → (s : Coordinator) → afterWidening .phase ≡ up s → (place : ℕ) → idle (rowAt (s .table) place .status) ≡ false
     → TimesInOrder (s .clock) (rowAt (s .table) place)
-demanded-times t = t .in-order opened opened-accepted (itemsOf flushed)
+demanded-times t s e = t opened opened-accepted (itemsOf flushed) s e .in-order
 
 pub demanded-ticks : Timeouts → (s : Coordinator) → afterWidening .phase ≡ up s → (time : ℤ) → fits w64 time ≡ true
     → Ticks (max (s .clock) (toNat time)) (afterWidening .history) (answered (tickCall time) (record { state = s; log = afterWidening .log }))
     (step (called own (tickCall time)) afterWidening .history)
-demanded-ticks t = t .ticks opened opened-accepted (itemsOf flushed)
+demanded-ticks t s e = t opened opened-accepted (itemsOf flushed) s e .ticks
 
 pub demanded-in-time : Timeouts → (s : Coordinator) → afterWidening .phase ≡ up s → (time : ℤ) → fits w64 time ≡ true
     → EndsInTime (max (s .clock) (toNat time)) (afterWidening .history) (answered (tickCall time) (record { state = s; log = afterWidening .log }))
-demanded-in-time t = t .ends-in-time opened opened-accepted (itemsOf flushed)
+    (step (called own (tickCall time)) afterWidening .history)
+demanded-in-time t s e = t opened opened-accepted (itemsOf flushed) s e .ends-in-time
 
 -- demand 2: what the cut left is opened, and what was not opened could not have been written
 module _ (d : Demand2) (log : List ℕ) (i : InOrder scanText log lengthLeft (pos 2) (pos 1000) (pos 1999)) where

@@ -21,7 +21,7 @@ use Rattle.coordinator.specs.Calls.{tickCall, answered}
 use Rattle.coordinator.specs.declared.Coordinator.{Coordinator}
 use Rattle.writable_logs.specs.RecordsSay.{namesOf}
 use Rattle.runs.specs.History.{recordAppended, History, Logged, recordsOf, contents, isFlushed, isOf, latestOf}
-use Rattle.runs.specs.World.{up, FirstOpening, Accepted, start, own, Item, call, step, run}
+use Rattle.runs.specs.World.{up, World, FirstOpening, Accepted, start, own, Item, call, step, run}
 
 -- ---- what the history says of a transaction
 
@@ -104,17 +104,18 @@ pub record BeganAt (h : History) (name : List ℕ) (a d : ℕ) : Type 0 where
   pub timeout : first .content .timeout ≡ pos d
 
 -- a Tick aborts the transaction of a place, or one at a lower place that is due
-pub record AbortsUpTo (clock : ℕ) (h : History) (answer : Reply) (place : ℕ) : Type 0 where
+pub record AbortsUpTo (place clock : ℕ) (h : History) (answer : Reply) (after : History) : Type 0 where
   pub lowest : ℕ
   pub up-to : lowest ≤ place
   pub due : isDue clock h (nameAt h lowest) ≡ true
   pub answers : answer ≡ accepted (pos lowest ∷ [])
+  pub appends : Found (λ (x : Logged). Appends h (abortOf clock (x .content)) after) (latestOf (nameAt h lowest) h)
 
 -- once the clock is above a + d and its latest record is flushed
-abbrev pub EndsInTime : ℕ → History → Reply → Type 0
-EndsInTime clock h answer =
+abbrev pub EndsInTime : ℕ → History → Reply → History → Type 0
+EndsInTime clock h answer after =
     (place a d : ℕ) → place < length (names h) → BeganAt h (nameAt h place) a d → found (isFlushed h) (latestOf (nameAt h place) h) ≡ true → a + d < clock
-    → AbortsUpTo clock h answer place
+    → AbortsUpTo place clock h answer after
 
 -- ---- times
 
@@ -125,16 +126,19 @@ pub record TimesInOrder (clock : ℕ) (row : Row) : Type 0 where
 
 -- ---- the statement
 
--- at every moment of every run at which the coordinator is up
-pub record Timeouts : Type 0 where
+-- what holds of a world whose coordinator is up in this state
+pub record TimeoutsIn (w : World) (s : Coordinator) : Type 0 where
   -- whatever is held in status 1 to 3
-  pub in-order : (o : FirstOpening) → Accepted o → (items : List Item) (s : Coordinator) → run items (start o) .phase ≡ up s
-      → (place : ℕ) → idle (rowAt (s .table) place .status) ≡ false → TimesInOrder (s .clock) (rowAt (s .table) place)
-  -- a Tick at any time: "The clock is the greater of its old value and the time given"
-  pub ticks : (o : FirstOpening) → Accepted o → (items : List Item) (s : Coordinator) → let w = run items (start o) in
-      w .phase ≡ up s → (time : ℤ) → fits w64 time ≡ true
+  pub in-order : (place : ℕ) → idle (rowAt (s .table) place .status) ≡ false → TimesInOrder (s .clock) (rowAt (s .table) place)
+  -- a Tick at any time; "The clock is the greater of its old value and the time given"
+  pub ticks : (time : ℤ) → fits w64 time ≡ true
       → Ticks (max (s .clock) (toNat time)) (w .history) (answered (tickCall time) (record { state = s; log = w .log })) (step (call own (tickCall time)) w .history)
-  -- so no transaction that Ticks are called for goes on for ever. Not met by a Tick for which a widening renews the time.
-  pub ends-in-time : (o : FirstOpening) → Accepted o → (items : List Item) (s : Coordinator) → let w = run items (start o) in
-      w .phase ≡ up s → (time : ℤ) → fits w64 time ≡ true
-      → EndsInTime (max (s .clock) (toNat time)) (w .history) (answered (tickCall time) (record { state = s; log = w .log }))
+  -- so no transaction goes on for ever while Tick is called. Not met by a Tick for which a widening renews the time.
+  pub ends-in-time : (time : ℤ) → fits w64 time ≡ true
+      → EndsInTime (max (s .clock) (toNat time)) (w .history) (answered (tickCall time) (record { state = s; log = w .log })) (step (call own (tickCall time)) w .history)
+
+-- at every moment of every run at which the coordinator is up
+abbrev pub Timeouts : Type 0
+Timeouts =
+    (o : FirstOpening) → Accepted o → (items : List Item) (s : Coordinator) → let w = run items (start o) in
+    w .phase ≡ up s → TimeoutsIn w s

@@ -31,13 +31,15 @@ module _ (clock : ℕ) (h : History) where
   due name a d b flushed above =
       rw (flushed, b .records, beginning-is (b .widenings) (b .first) (b .older) (b .begins) (b .before), b .at, b .timeout) (lt-ltb (a + d) clock above)
 
-  pub in-time : (answer : Reply) (after : History) → Ticks clock h answer after → EndsInTime clock h answer
+  pub in-time : (answer : Reply) (after : History) → Ticks clock h answer after → EndsInTime clock h answer after
   in-time answer after t place a d named b flushed above =
       let passes : isDue clock h (nameAt h place) ≡ true = due (nameAt h place) a d b flushed above in
       let low : place < duePlace clock h → ⊥ = λ l. not-both (first-before (isDue clock h) (names h) [] place l) passes in
+      let (answers, appends) = t .aborts (omega arith) in
       record {
         lowest = duePlace clock h;
         up-to = omega arith;
         due = first-found (isDue clock h) (names h) [] (omega arith);
-        answers = t .aborts (omega arith) .0;
+        answers = answers;
+        appends = appends;
       }

@@ -40,14 +40,13 @@ use Rattle.coordinator.specs.declared.Coordinator.{Coordinator}
 use Rattle.coordinator.proofs.Reserve.{admits-length}
 use Rattle.coordinator.proofs.TickCases.{overdue-found, tick-aborted, tick-none}
 use Rattle.runs.specs.History.{recordAppended, History, Logged, recordsOf, isOf, latestOf}
-use Rattle.runs.specs.World.{Phase, up, World, catalogueOf, FirstOpening, Accepted, start, own, Item, call, next, step, run, whileUp, coordinatorLent, historyAfter}
+use Rattle.runs.specs.World.{Phase, up, World, catalogueOf, start, own, call, next, step, run, whileUp, coordinatorLent, historyAfter}
 use Rattle.runs.proofs.Admitted.{OwnState, OwnLog}
 use Rattle.protocol.specs.HistoryInvariant.{HistoryInvariant}
 use Rattle.protocol.proofs.TableOfRecords.{come-record}
 use Rattle.agreement.proofs.Invariant.{UpLog, LogSide, Invariant}
 use Rattle.agreement.proofs.FlushedFirst.{proper}
 use Rattle.agreement.proofs.LiveTable.{live-ready, live-record-at, RecordAt}
-use Rattle.agreement.proofs.Steps.{always}
 use Rattle.runs.specs.Timeouts.{names, duePlace, dueRecord, abortOf, Appends, Ticks}
 use Rattle.timeouts.proofs.Due.{name-at, whole, due-nowhere, due-within, due-there}
 
@@ -149,7 +148,7 @@ module _ (c : Catalogue) (log : List ℕ) (s : Coordinator) (h : History) (u : U
   tick-does : Ticks clock h (tickReply (decided .answer)) (historyAfter (decided .action) s h)
   tick-does = record { none-due = none-answered; aborts = abort-answered }
 
--- ---- a Tick in a world
+-- ---- a Tick in a world in which the invariant holds
 
 module _ (w : World) (i : Invariant w) (s : Coordinator) (e : w .phase ≡ up s) (time : ℤ) (timed : fits w64 time ≡ true) where
   log-up : UpLog (catalogueOf w) (w .log) s (w .history)
@@ -168,15 +167,8 @@ module _ (w : World) (i : Invariant w) (s : Coordinator) (e : w .phase ≡ up s)
       ap (λ (b : Bool). cond b (next (call own (tickCall time)) w) w .history) (and-both (fits w64 time) true timed refl)
       ∙ ap (λ (p : Phase). whileUp p w (λ x. coordinatorLent own (actionOf (tickCall time) x) x w) .history) e
 
-  world-ticks : Ticks (max (s .clock) (toNat time)) (w .history) (answered (tickCall time) (record { state = s; log = w .log })) (step (call own (tickCall time)) w .history)
+  pub world-ticks : Ticks (max (s .clock) (toNat time)) (w .history) (answered (tickCall time) (record { state = s; log = w .log })) (step (call own (tickCall time)) w .history)
   world-ticks =
       let answer = answered (tickCall time) (record { state = s; log = w .log }) in
       subst (λ (k : ℕ). Ticks k (w .history) answer (step (call own (tickCall time)) w .history)) (later-max (s .clock) time)
       (subst (Ticks (clockAt s time) (w .history) answer) (sym tick-history) (tick-does (catalogueOf w) (w .log) s (w .history) log-up (i .of-history) time timed tick-passes))
-
--- ---- the theorem
-
-pub ticks : (o : FirstOpening) → Accepted o → (items : List Item) (s : Coordinator) → let w = run items (start o) in
-    w .phase ≡ up s → (time : ℤ) → fits w64 time ≡ true
-    → Ticks (max (s .clock) (toNat time)) (w .history) (answered (tickCall time) (record { state = s; log = w .log })) (step (call own (tickCall time)) w .history)
-ticks o a items s e time timed = world-ticks (run items (start o)) (always o a items) s e time timed
