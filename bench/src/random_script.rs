@@ -29,6 +29,9 @@ const GOOD_NAMES: usize = 8;
 const MANY_NAMES: usize = 36;
 const NUMBERS: [u64; 14] = [0, 1, 2, 31, 32, 63, 64, 1000, 32766, 32767, 2147483647, u64::MAX, 1 << 63, (1 << 63) - 1];
 
+/// Where the clock is further, times stay behind it.
+const LAST_TIME: u64 = 1_000_000_000_000_000;
+
 /// The names one behind the other, and where each lies.
 pub struct AllNames {
     pub bytes: Vec<u8>,
@@ -119,10 +122,10 @@ impl Writer<'_> {
         let s = &self.server.coordinator;
         let id = &s.table.ids[place];
         if id.end > s.flushed {
-            return Flush;
+            return if self.chance.percent(10) { Tick } else { Flush };
         }
         match id.status {
-            Status::Begin => self.chance.of(&[Produce, Produce, Produce, Produce, Produce, End, Add, Read, Row]),
+            Status::Begin => self.chance.of(&[Produce, Produce, Produce, Produce, Produce, End, Add, Add, Tick, Read, Row]),
             Status::PrepareCommit | Status::PrepareAbort => self.chance.of(&[Order, Marker, Marker, Ack, Ack, Ack]),
             _ => self.chance.of(&[Add, Add, Add, Add, Init, End]),
         }
@@ -139,6 +142,10 @@ impl Writer<'_> {
         let (all, end, flushed, leader) = (s.catalogue.all, s.table.end as u64, s.flushed as u64, s.epoch as u64);
         let held = place.map(|place| &s.table.ids[place]);
         let (pid, epoch, joined) = held.map_or((1000, 0, all), |id| (id.pid, id.epoch, if id.joined == 0 { all } else { id.joined }));
+        // of a transaction: the positions that it may still join, and the last moment of its timeout
+        let begun = held.filter(|id| id.status == Status::Begin);
+        let more = all & !begun.map_or(0, |id| id.joined);
+        let deadline = begun.map_or(self.time, |id| (id.start as u64).wrapping_add(id.timeout as u64));
         let at = place.unwrap_or(0);
         let (pid_number, epoch_number) = (pid as u64, epoch as u64);
         let verdict = self.chance.below(2);
@@ -147,10 +154,16 @@ impl Writer<'_> {
                 [self.chance.of(&[end, end, flushed, flushed + (end - flushed) / 2, 0]), leader + self.chance.below(2), 1000, self.chance.of(&[1003, 1999]), 0]
             }
             Kind::Partition => [0; 5],
-            Kind::Init => [self.chance.of(&[1, 60000, 900000]), self.time, 0, 0, 0],
-            Kind::Add => [pid_number, epoch_number, self.subset(all), self.time, 0],
+            Kind::Init => [self.chance.of(&[1, 1000, 60000, 900000]), self.time, 0, 0, 0],
+            Kind::Add => {
+                let set = self.chance.of(&[more, more, all]);
+                [pid_number, epoch_number, self.subset(if set == 0 { all } else { set }), self.time, 0]
+            }
             Kind::End => [pid_number, epoch_number, verdict, self.time, 0],
-            Kind::Tick => [self.time + self.chance.of(&[0, 2, 70000]), 0, 0, 0, 0],
+            Kind::Tick => {
+                let late = self.time + self.chance.of(&[0, 2, 70000]);
+                [self.chance.of(&[late, deadline, deadline.wrapping_add(1)]), 0, 0, 0, 0]
+            }
             Kind::Flush => [self.chance.of(&[end, end, end, flushed, flushed + (end - flushed) / 2]), 0, 0, 0, 0],
             Kind::Order => [self.chance.of(&[u64::MAX, u64::MAX, 1, 256]), 0, 0, 0, 0],
             Kind::Ack => [at as u64, pid_number, epoch_number, self.member(joined), 0],
@@ -175,6 +188,10 @@ impl Writer<'_> {
 
     fn call(&mut self) -> Call {
         self.time += self.chance.of(&[0, 1, 10, 1000]);
+        if self.chance.percent(30) {
+            // catches up with the clock, so that a widening has a later time than its start
+            self.time = self.time.max((self.server.coordinator.clock as u64).min(LAST_TIME));
+        }
         let n = self.name();
         let name = self.names.parts[n];
         let place = self.server.coordinator.table.place(&self.names.bytes[name.0..name.1]);
