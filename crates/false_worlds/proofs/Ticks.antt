@@ -84,6 +84,6 @@ widened-ended answer after ends =
 
 -- ---- times
 
-pub not-in-order : (x : FalseTimes) → TimesInOrder 151 (falseTimes x) → ⊥
-not-in-order startedLater = λ o. above 141 140 refl (o .started)
-not-in-order updatedLater = λ o. above 152 151 refl (o .updated-by)
+pub times-not-in-order : (x : FalseTimes) → TimesInOrder 151 (falseTimes x) → ⊥
+times-not-in-order startedLater = λ o. above 141 140 refl (o .started)
+times-not-in-order updatedLater = λ o. above 152 151 refl (o .updated-by)
