@@ -1,6 +1,6 @@
 -- None of the false Ticks is right, and both true ones are; a Tick that ends transactions in time aborts the widened one; no row of false times is in order. All by computation.
 use Prim.Native.Nat.{ℕ}
-use mathlib.Core.Path.{_≡_, refl, sym, ap, _∙_}
+use mathlib.Core.Path.{_≡_, refl, sym, ap, subst, _∙_}
 use mathlib.Core.Bool.{Bool, true, false, true≢false}
 use mathlib.Core.List.{List, [], _∷_}
 use native.Mathlib.Omega.{arith}
@@ -12,12 +12,12 @@ use Rattle.numbers.specs.Signed.{eqZ}
 use Rattle.numbers.specs.Bytes.{same}
 use Rattle.record.specs.Record.{statusCode}
 use Rattle.record.specs.declared.Record.{Record}
-use Rattle.search.specs.Search.{firstWhere, find, filter, found}
+use Rattle.search.specs.Search.{firstWhere, find, filter, found, Found}
 use Rattle.answers.specs.Answers.{Reply, accepted}
 use Rattle.writable_logs.specs.RecordsSay.{hasName, namesOf}
-use Rattle.runs.specs.History.{History, Logged, recordsOf, flushedOf, latestOf}
-use Rattle.runs.specs.Timeouts.{beginningOf, EndsInTime, TimesInOrder}
-use Rattle.false_worlds.specs.Ticks.{IsRight, widened, FalseTick, fromLastUpdate, renewedStart, fromTransactionBefore, atTheTimeout, unflushedWidening, preparedAborted, higherPlace, bothAborted, otherPlace, epochKept, oldClock, otherStart, narrowerSet, committed, silent, spuriousRecord, falseTick, TrueTick, stillInTime, outlivedTimeout, trueTick, FalseTimes, startedLater, updatedLater, falseTimes}
+use Rattle.runs.specs.History.{recordAppended, History, Logged, recordsOf, flushedOf, latestOf}
+use Rattle.runs.specs.Timeouts.{beginningOf, nameAt, abortOf, Appends, EndsInTime, TimesInOrder}
+use Rattle.false_worlds.specs.Ticks.{IsRight, widened, abortAt, FalseTick, fromLastUpdate, renewedStart, fromTransactionBefore, atTheTimeout, unflushedWidening, preparedAborted, higherPlace, bothAborted, otherPlace, epochKept, oldClock, otherStart, narrowerSet, committed, silent, spuriousRecord, falseTick, TrueTick, stillInTime, outlivedTimeout, trueTick, FalseTimes, startedLater, updatedLater, falseTimes}
 use Rattle.false_worlds.specs.Histories.{name7}
 use Rattle.false_worlds.proofs.Differ.{apart, above}
 
@@ -64,7 +64,8 @@ true-ticks outlivedTimeout = record { none-due = λ l. absurd (true≢false (sym
 -- ---- in time
 
 -- what `EndsInTime` says of the transaction that began at 100 with timeout 50 and was widened once, at clock 151
-pub widened-ended : (answer : Reply) (after : History) → EndsInTime 151 widened answer after → answer ≡ accepted (pos 0 ∷ [])
+pub widened-ended : (answer : Reply) (after : History) → EndsInTime 151 widened answer after
+    → (answer ≡ accepted (pos 0 ∷ [])) × ((end : ℕ) × (after ≡ recordAppended (abortAt 151) end ∷ widened))
 unfolding beginningOf hasName namesOf recordsOf flushedOf firstWhere find filter same
 widened-ended answer after ends =
     let aborted = ends 0 100 50 (ltb-true 0 1 refl)
@@ -80,7 +81,9 @@ widened-ended answer after ends =
     })
     refl (ltb-true 150 151 refl) in
     let zero : aborted .lowest ≡ 0 = omega (arith, aborted .up-to) in
-    aborted .answers ∙ ap (λ (place : ℕ). accepted (pos place ∷ [])) zero
+    let appended : Found (λ (x : Logged). Appends widened (abortOf 151 (x .content)) after) (latestOf (nameAt widened 0) widened) =
+    subst (λ (place : ℕ). Found (λ (x : Logged). Appends widened (abortOf 151 (x .content)) after) (latestOf (nameAt widened place) widened)) zero (aborted .appends) in
+    (aborted .answers ∙ ap (λ (place : ℕ). accepted (pos place ∷ [])) zero, appended)
 
 -- ---- times
 

@@ -111,7 +111,7 @@ abbrev appending : Record → Tick
 appending r = answering 151 widened 0 r 262
 
 -- the abort of what was widened, at this clock
-abbrev abortAt : ℕ → Record
+abbrev pub abortAt : ℕ → Record
 abortAt clock = record7 PrepareAbort 1 3 clock 100
 
 pub data FalseTick : Type 0 where
