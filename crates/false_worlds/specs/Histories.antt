@@ -22,19 +22,23 @@ use Rattle.runs.specs.World.{Leader, World, Phase, up, Carrying, nothing}
 abbrev pub name7 : List ℕ
 name7 = padded nameMax rig7
 
--- a record of `rig7`, by status, pid, epoch, set and last update
-abbrev pub recordAt : Status → ℕ → ℕ → ℕ → ℕ → Record
-recordAt status pid epoch joined updated =
+-- a record by name, pid and timeout; then by status, epoch, set, last update and start
+abbrev pub recordBy : List ℕ → ℕ → ℕ → Status → ℕ → ℕ → ℕ → ℕ → Record
+recordBy name pid timeout status epoch joined updated start =
     record {
-      name = name7;
+      name = name;
       pid = pos pid;
       epoch = pos epoch;
-      timeout = pos 60000;
+      timeout = pos timeout;
       status = status;
       joined = joined;
       updated = pos updated;
-      start = cond (idle status) (negsuc 0) (pos 110);
+      start = cond (idle status) (negsuc 0) (pos start);
     }
+
+-- one of `rig7`, by status, pid, epoch, set and last update
+abbrev pub recordAt : Status → ℕ → ℕ → ℕ → ℕ → Record
+recordAt status pid epoch joined updated = recordBy name7 pid 60000 status epoch joined updated 110
 
 -- the same at 120
 abbrev pub recordOf7 : Status → ℕ → ℕ → ℕ → Record

@@ -1,11 +1,9 @@
 -- Ticks made by hand: those that `Ticks` must refuse, one for each way to get the timeout wrong, and two that it must admit; and rows whose times are not in order.
 use Prim.Native.Nat.{ℕ}
-use mathlib.Core.Bool.{cond}
 use mathlib.Core.List.{List, [], _∷_}
-use lib.IntN.{pos, negsuc}
+use lib.IntN.{pos}
 use Rattle.numbers.specs.Padded.{padded}
 use Rattle.record.specs.Limits.{nameMax}
-use Rattle.record.specs.Record.{idle}
 use Rattle.record.specs.declared.Record.{Record}
 use Rattle.record.specs.declared.Status.{Status}
 use Rattle.record.specs.declared.Status.the-variants.{Empty, Begin, PrepareCommit, PrepareAbort, CompleteCommit}
@@ -14,7 +12,7 @@ use Rattle.answers.specs.Answers.{Reply, accepted}
 use Rattle.server.specs.Lines.{lab3}
 use Rattle.runs.specs.History.{recordAppended, logFlushed, logOpened, History}
 use Rattle.runs.specs.Timeouts.{Ticks}
-use Rattle.false_worlds.specs.Histories.{name7}
+use Rattle.false_worlds.specs.Histories.{name7, recordBy}
 
 -- the clock of a Tick, the history before it, its answer, and the history after it
 pub record Tick : Type 0 where
@@ -32,26 +30,12 @@ IsRight t = Ticks (t .clock) (t .before) (t .answer) (t .after)
 abbrev name3 : List ℕ
 name3 = padded nameMax lab3
 
--- a record with timeout 50, by name, pid, status, epoch, set, last update and start
-abbrev recordNamed : List ℕ → ℕ → Status → ℕ → ℕ → ℕ → ℕ → Record
-recordNamed name pid status epoch joined updated start =
-    record {
-      name = name;
-      pid = pos pid;
-      epoch = pos epoch;
-      timeout = pos 50;
-      status = status;
-      joined = joined;
-      updated = pos updated;
-      start = cond (idle status) (negsuc 0) (pos start);
-    }
-
--- one of `rig7`, and one of `lab3`
+-- a record of `rig7` and one of `lab3` with timeout 50, by status, epoch, set, last update and start
 abbrev record7 : Status → ℕ → ℕ → ℕ → ℕ → Record
-record7 = recordNamed name7 1000
+record7 = recordBy name7 1000 50
 
 abbrev record3 : Status → ℕ → ℕ → ℕ → ℕ → Record
-record3 = recordNamed name3 1001
+record3 = recordBy name3 1001 50
 
 -- a record is appended, and flushed
 abbrev flushed : Record → ℕ → History → History
