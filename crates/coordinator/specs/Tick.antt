@@ -22,7 +22,7 @@ use Rattle.coordinator.specs.declared.Coordinator.{Coordinator}
 abbrev pub ageFrom : Row → ℕ
 ageFrom row = row .start
 
--- "a flushed BEGIN and clock − …" start time "above its timeout"
+-- "a flushed BEGIN and clock − last update above its timeout", with the start time in place of the last update
 unfoldable pub overdue : ℕ → ℕ → Row → Bool
 overdue flushed clock row = isBegin (row .status) && not (unflushed flushed row) && ltb (row .timeout) (clock - ageFrom row)
 

@@ -1,4 +1,4 @@
--- The table to be proved, T1 to T12: for each line the calls that lead to it, and what document 01 says of the last one; of T4 and T5 document 02.
+-- The table to be proved, T1 to T12: for each line the calls that lead to it, and what document 01 says of the last one; of T4, T5 and a widened T11 document 02.
 use Prim.Native.Nat.{ℕ, _-_, _*_}
 use mathlib.Core.List.{List, [], _∷_, _++_}
 use lib.IntN.{ℤ, pos}
