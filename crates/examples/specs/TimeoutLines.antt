@@ -3,13 +3,9 @@ use mathlib.Core.List.{List, [], _∷_, _++_}
 use lib.IntN.{pos}
 use Rattle.coordinator.specs.Calls.{addCall}
 use Rattle.server.specs.Calls.{Call, openWords, call}
-use Rattle.server.specs.Lines.{Line, line, opened, init7, join, begins, widens, lab3}
+use Rattle.server.specs.Lines.{Line, line, opened, init7, join, begins, widens, widensFlushed, lab3}
 use Rattle.examples.specs.Starts.{reopened, init3, add3, prepares, completes, beginsBoth, addAt, endAt, tickAt, flushed}
 use Rattle.examples.specs.Held.{HeldLine, held7}
-
--- `rig7` in a flushed BEGIN at 100 with timeout 50, widened at 140; the widening is flushed and ends at 191
-abbrev pub widensFlushed : List Call
-widensFlushed = widens (pos 50) ++ (flushed 191 ∷ [])
 
 -- `rig7` with timeout 60000 and `lab3` with 50 in a flushed BEGIN at 100
 abbrev pub beginsLate : List Call
@@ -58,8 +54,8 @@ abbrev pub timeoutHeld : List HeldLine
 timeoutHeld =
     -- a widening keeps the start, and so does the Tick that aborts
     held7 (widens (pos 50)) 0 50 1 3 140 (pos 100) 0 140 ∷
-    held7 (widensFlushed ++ (tickAt 150 ∷ [])) 0 50 1 3 140 (pos 100) 0 150 ∷
-    held7 (widensFlushed ++ (tickAt 151 ∷ [])) 1 50 3 3 151 (pos 100) 0 151 ∷
+    held7 (widensFlushed (pos 50) ++ (tickAt 150 ∷ [])) 0 50 1 3 140 (pos 100) 0 150 ∷
+    held7 (widensFlushed (pos 50) ++ (tickAt 151 ∷ [])) 1 50 3 3 151 (pos 100) 0 151 ∷
     -- after a cut
     held7 (widens (pos 50) ++ (tickAt 145 ∷ reopened 191 ∷ [])) 0 50 1 3 140 (pos 100) 0 140 ∷
     held7 (widens (pos 50) ++ (reopened 190 ∷ [])) 0 50 1 1 100 (pos 100) 0 100 ∷

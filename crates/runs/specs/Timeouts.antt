@@ -12,7 +12,7 @@ use mir.Syntax.{w64}
 use Rattle.numbers.specs.Signed.{fits, toNat}
 use Rattle.record.specs.Record.{idle, statusCode}
 use Rattle.record.specs.declared.Record.{Record}
-use Rattle.record.specs.declared.Status.the-variants.{PrepareAbort}
+use Rattle.record.specs.declared.Status.the-variants.{Begin, PrepareAbort}
 use Rattle.search.specs.Search.{firstWhere, orElse, filter, found, Found, Each}
 use Rattle.answers.specs.Answers.{Reply, accepted}
 use Rattle.row.specs.declared.Row.{Row}
@@ -27,7 +27,7 @@ use Rattle.runs.specs.World.{up, World, FirstOpening, Accepted, start, o
 
 -- "1 BEGIN"
 abbrev pub isBegin : Logged → Bool
-isBegin x = eqb (statusCode (x .content .status)) 1
+isBegin x = eqb (statusCode (x .content .status)) (statusCode Begin)
 
 -- of the records of one name, newest first, the one with which its transaction began, if that is under way: the newer ones widened it
 unfoldable pub beginningOf : List Logged → Option Logged

@@ -98,6 +98,10 @@ begins timeout = opened ∷ openWords ∷ init7 timeout ∷ call (flushCall 53) 
 abbrev pub widens : ℤ → List Call
 widens timeout = begins timeout ++ (call (addCall rig7 (pos 1000) (pos 0) 2 (pos 140)) ∷ [])
 
+-- and it flushed
+abbrev pub widensFlushed : ℤ → List Call
+widensFlushed timeout = widens timeout ++ (call (flushCall 191) ∷ [])
+
 abbrev pub put : Call
 put = produceCall rig7 (pos 1000) (pos 0) 0 (pos 0) 502
 
@@ -202,8 +206,8 @@ lines =
     -- "T11 Tick 151 aborts."
     line 2048 0 (begins (pos 50)) (call (tickCall (pos 151))) 0 (pos 0 ∷ []) 1 67 ∷
     -- T11, document 02, 2: "In T11 a BEGIN widened at 140 is still aborted at 151.", and not at 150
-    line 2048 0 (widens (pos 50) ++ (call (flushCall 191) ∷ [])) (call (tickCall (pos 150))) 0 [] 1 0 ∷
-    line 2048 0 (widens (pos 50) ++ (call (flushCall 191) ∷ [])) (call (tickCall (pos 151))) 0 (pos 0 ∷ []) 1 71 ∷
+    line 2048 0 (widensFlushed (pos 50)) (call (tickCall (pos 150))) 0 [] 1 0 ∷
+    line 2048 0 (widensFlushed (pos 50)) (call (tickCall (pos 151))) 0 (pos 0 ∷ []) 1 71 ∷
     -- "T12 held epoch 32766, Init: new pid, epoch 0."
     lineFrom heldSpent [] (init7 (pos 60000)) 0 (pos 1001 ∷ pos 0 ∷ []) 1 53 ∷
     []

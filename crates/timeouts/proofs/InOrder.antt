@@ -10,15 +10,16 @@ use Rattle.table.proofs.Unacknowledged.{unacknowledged, plain-row, plain-update
 use Rattle.log_reader.proofs.TableSays.{along}
 use Rattle.coordinator.specs.declared.Coordinator.{Coordinator}
 use Rattle.runs.specs.History.{recordsOf, contents}
-use Rattle.runs.specs.World.{Phase, up, World, catalogueOf}
-use Rattle.agreement.proofs.Invariant.{UpLog, LogSide, Invariant}
+use Rattle.runs.specs.World.{up, World, catalogueOf}
+use Rattle.agreement.proofs.Invariant.{Invariant}
+use Rattle.agreement.proofs.Preserves.{log-of}
 use Rattle.runs.specs.Timeouts.{TimesInOrder}
 
 pub times-in-order : (w : World) → Invariant w → (s : Coordinator) → w .phase ≡ up s → (place : ℕ) → idle (rowAt (s .table) place .status) ≡ false
     → TimesInOrder (s .clock) (rowAt (s .table) place)
 times-in-order w i s u place busy =
     let c = catalogueOf w in
-    let side : UpLog c (w .log) s (w .history) = subst (λ (p : Phase). LogSide c (w .log) p (w .history)) u (i .log-side) in
+    let side = log-of w i s u in
     let records = contents (recordsOf (w .history)) in
     let timed : Timed (unacknowledged (s .table)) =
     subst Timed (sym (side .written .table-is)) (along c Timed (kept-timed c) emptyTable timed-empty records (side .written .come)) in

@@ -37,15 +37,15 @@ use Rattle.coordinator.specs.Calls.{tickCall, answered, actionOf}
 use Rattle.coordinator.specs.Coordinator.{logEnd, rowFrame, admits, clockAt, Action, append}
 use Rattle.coordinator.specs.Tick.{overduePlace, tickTests, tick}
 use Rattle.coordinator.specs.declared.Coordinator.{Coordinator}
-use Rattle.coordinator.proofs.Reserve.{admits-length}
 use Rattle.coordinator.proofs.TickCases.{overdue-found, tick-aborted, tick-none}
-use Rattle.runs.specs.History.{recordAppended, History, Logged, recordsOf, isOf, latestOf}
+use Rattle.writable_logs.proofs.Written.{written-admits}
+use Rattle.runs.specs.History.{recordAppended, History, Logged, recordsOf, contents, isOf, latestOf}
 use Rattle.runs.specs.World.{Phase, up, World, catalogueOf, start, own, call, next, step, run, whileUp, coordinatorLent, historyAfter}
-use Rattle.runs.proofs.Admitted.{OwnState, OwnLog}
 use Rattle.protocol.specs.HistoryInvariant.{HistoryInvariant}
 use Rattle.protocol.proofs.TableOfRecords.{come-record}
-use Rattle.agreement.proofs.Invariant.{UpLog, LogSide, Invariant}
+use Rattle.agreement.proofs.Invariant.{UpLog, Invariant}
 use Rattle.agreement.proofs.FlushedFirst.{proper}
+use Rattle.agreement.proofs.Preserves.{log-of}
 use Rattle.agreement.proofs.LiveTable.{live-ready, live-record-at, RecordAt}
 use Rattle.runs.specs.Timeouts.{names, duePlace, dueRecord, abortOf, Appends, Ticks}
 use Rattle.timeouts.proofs.Due.{name-at, whole, due-nowhere, due-within, due-there}
@@ -151,15 +151,12 @@ module _ (c : Catalogue) (log : List ℕ) (s : Coordinator) (h : History) (u : U
 -- ---- a Tick in a world in which the invariant holds
 
 module _ (w : World) (i : Invariant w) (s : Coordinator) (e : w .phase ≡ up s) (time : ℤ) (timed : fits w64 time ≡ true) where
-  log-up : UpLog (catalogueOf w) (w .log) s (w .history)
-  log-up = subst (λ (p : Phase). LogSide (catalogueOf w) (w .log) p (w .history)) e (i .log-side)
-
   -- the log buffer is admitted, which is all that a Tick tests
   tick-passes : firstRefusal (tickTests s (length (w .log))) ≡ 0
   unfolding tickTests
   tick-passes =
-      let mine : OwnState (w .log) s = subst (OwnLog (w .log)) e (i .own .of-log) in
-      let admitted : admits s (length (w .log)) ≡ true = admits-length s (mine .reserved) (length (w .log)) ∙ eq-eqb (length (w .log)) (s .room) (mine .room) in
+      let admitted : admits s (length (w .log)) ≡ true =
+      written-admits (catalogueOf w) (w .log) s (contents (recordsOf (w .history))) (log-of w i s e .written) (length (w .log)) ∙ eq-eqb (length (w .log)) (length (w .log)) refl in
       none-is (tickTests s (length (w .log))) (ap not admitted, tt)
 
   tick-history : step (call own (tickCall time)) w .history ≡ historyAfter (tick s (length (w .log)) time .action) s (w .history)
@@ -171,4 +168,4 @@ module _ (w : World) (i : Invariant w) (s : Coordinator) (e : w .phase ≡ up s)
   world-ticks =
       let answer = answered (tickCall time) (record { state = s; log = w .log }) in
       subst (λ (k : ℕ). Ticks k (w .history) answer (step (call own (tickCall time)) w .history)) (later-max (s .clock) time)
-      (subst (Ticks (clockAt s time) (w .history) answer) (sym tick-history) (tick-does (catalogueOf w) (w .log) s (w .history) log-up (i .of-history) time timed tick-passes))
+      (subst (Ticks (clockAt s time) (w .history) answer) (sym tick-history) (tick-does (catalogueOf w) (w .log) s (w .history) (log-of w i s e) (i .of-history) time timed tick-passes))
