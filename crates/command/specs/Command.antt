@@ -15,7 +15,7 @@ use Rattle.command.specs.Words.{rowOf}
 use Rattle.command.specs.declared.Change.{Change}
 use Rattle.command.specs.declared.Change.the-variants.{Is, Bad}
 use Rattle.command.specs.declared.Command.{Command}
-use Rattle.command.specs.declared.Command.the-variants.{Init, Add, End, Tick, Flush, Put, Carry, Read, Cut, Unknown}
+use Rattle.command.specs.declared.Command.the-variants.{Init, Add, End, Tick, Flush, Put, Carry, Read, Cut, Left, Unknown}
 
 -- what a number makes a command of; a field that writes none makes the line no command
 abbrev pub given : Option ℤ → (ℤ → Command) → Command
@@ -82,9 +82,13 @@ readOf line = ofFields 2 line (uint64 line 1 (λ position. Read position))
 unfoldable pub cutOf : List ℕ → Command
 cutOf line = ofFields 2 line (uint64 line 1 (λ kept. Cut kept))
 
+-- `left PLACE`
+unfoldable pub leftOf : List ℕ → Command
+leftOf line = ofFields 2 line (uint64 line 1 (λ place. Left place))
+
 -- a line under each word, in the order of the table
 abbrev pub commandsOf : List ℕ → List Command
-commandsOf line = initOf line ∷ addOf line ∷ endOf line ∷ tickOf line ∷ flushOf line ∷ putOf line ∷ carryOf line ∷ readOf line ∷ cutOf line ∷ []
+commandsOf line = initOf line ∷ addOf line ∷ endOf line ∷ tickOf line ∷ flushOf line ∷ putOf line ∷ carryOf line ∷ readOf line ∷ cutOf line ∷ leftOf line ∷ []
 
 -- the command of a line with the word in this row of the table; past it there is none
 unfoldable pub commandAt : ℕ → List ℕ → Command
@@ -118,4 +122,5 @@ rowOfCommand (Put name pid epoch position sequence payload) = 5
 rowOfCommand (Carry up) = 6
 rowOfCommand (Read position) = 7
 rowOfCommand (Cut kept) = 8
-rowOfCommand Unknown = 9
+rowOfCommand (Left place) = 9
+rowOfCommand Unknown = 10

@@ -5,6 +5,6 @@ use Prim.Native.Nat.{ℕ}
 abbrev pub wordMax : ℕ
 wordMax = 5
 
--- the nine commands
+-- the ten commands
 abbrev pub commands : ℕ
-commands = 9
+commands = 10

@@ -6,10 +6,10 @@ use Rattle.numbers.specs.Bytes.{same}
 use Rattle.search.specs.Search.{firstWhere}
 use Rattle.numbers.specs.Ascii.{ascii}
 
--- the words of document 01's listing, and `tick`
+-- the words of document 01's listing, `tick`, and `left` of request 11 of document 02
 abbrev pub words : List (List ℕ)
 words =
-    ascii "init" ∷ ascii "add" ∷ ascii "end" ∷ ascii "tick" ∷ ascii "flush" ∷ ascii "put" ∷ ascii "carry" ∷ ascii "read" ∷ ascii "cut" ∷ []
+    ascii "init" ∷ ascii "add" ∷ ascii "end" ∷ ascii "tick" ∷ ascii "flush" ∷ ascii "put" ∷ ascii "carry" ∷ ascii "read" ∷ ascii "cut" ∷ ascii "left" ∷ []
 
 -- the word of a line that is no command
 abbrev pub unknown : List ℕ

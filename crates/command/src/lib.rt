@@ -13,12 +13,12 @@ ghost use Rattle.fields.specs.Fields.{SplitInto};
 ghost use Rattle.fields.specs.Numbers.{valueUnsigned};
 ghost use Rattle.command.specs.Limits.{commands};
 ghost use Rattle.command.specs.Words.{wordAt, rowOf};
-ghost use Rattle.command.specs.Command.{oneNumber, ReadsChange, initOf, addOf, endOf, tickOf, flushOf, putOf, carryOf, readOf, cutOf, commandAt, commandOf, rowOfCommand};
+ghost use Rattle.command.specs.Command.{oneNumber, ReadsChange, initOf, addOf, endOf, tickOf, flushOf, putOf, carryOf, readOf, cutOf, leftOf, commandAt, commandOf, rowOfCommand};
 
 // The limits of specs/Limits.antt, under the same names.
 pub const WORD_MAX: usize = 5;
 
-pub const COMMANDS: usize = 9;
+pub const COMMANDS: usize = 10;
 
 // The words of the commands, padded with zeros, and `?` for a line that is no command.
 const WORDS: [[u8; WORD_MAX]; COMMANDS + 1] = [
@@ -31,6 +31,7 @@ const WORDS: [[u8; WORD_MAX]; COMMANDS + 1] = [
     [b'c', b'a', b'r', b'r', b'y'],
     [b'r', b'e', b'a', b'd', 0],
     [b'c', b'u', b't', 0, 0],
+    [b'l', b'e', b'f', b't', 0],
     [b'?', 0, 0, 0, 0],
 ];
 
@@ -40,7 +41,7 @@ pub struct Word {
     pub len: usize,
 }
 
-// The commands of document 01's listing, with `tick`; and a line that is none of them.
+// The commands of document 01's listing, with `tick` and `left`; and a line that is none of them.
 pub enum Command {
     Init {
         name: Part,
@@ -81,6 +82,9 @@ pub enum Command {
     },
     Cut {
         kept: u64,
+    },
+    Left {
+        place: u64,
     },
     Unknown,
 }
@@ -335,6 +339,16 @@ fn cut_of(line: &[u8], fields: Fields) -> Command
     }
 }
 
+fn left_of(line: &[u8], fields: Fields) -> Command
+    requires { ⌜ SplitInto (now line) fields ⌝ }
+    ensures { λ r. ⌜ r ≡ leftOf (now (line .entry)) ⌝ }
+{
+    match one_number(line, fields) {
+        Unsigned64::Is(place) => Command::Left { place },
+        Unsigned64::Bad => Command::Unknown,
+    }
+}
+
 // The command of a line with the word in this row.
 fn command_at(row: usize, line: &[u8], fields: Fields) -> Command
     requires { ⌜ SplitInto (now line) fields ⌝ }
@@ -350,6 +364,7 @@ fn command_at(row: usize, line: &[u8], fields: Fields) -> Command
         6 => carry_of(line, fields),
         7 => read_of(line, fields),
         8 => cut_of(line, fields),
+        9 => left_of(line, fields),
         _ => Command::Unknown,
     }
 }
@@ -400,6 +415,7 @@ pub fn row_of_command(command: Command) -> usize
         Command::Carry { up: _ } => 6,
         Command::Read { position: _ } => 7,
         Command::Cut { kept: _ } => 8,
-        Command::Unknown => 9,
+        Command::Left { place: _ } => 9,
+        Command::Unknown => 10,
     }
 }

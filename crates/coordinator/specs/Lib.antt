@@ -1,4 +1,4 @@
--- Definitions of the crate coordinator: its state, and each of its calls; what a call changes.
+-- Definitions of the crate coordinator: its state, and each of its calls; what a call changes; what a display shows.
 pub mod Coordinator
 pub mod Named
 pub mod Change
@@ -11,4 +11,5 @@ pub mod Tick
 pub mod Flush
 pub mod Order
 pub mod Ack
+pub mod Left
 pub mod Calls

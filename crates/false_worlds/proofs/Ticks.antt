@@ -15,8 +15,8 @@ use Rattle.record.specs.declared.Record.{Record}
 use Rattle.search.specs.Search.{firstWhere, find, filter, found, Found}
 use Rattle.answers.specs.Answers.{Reply, accepted}
 use Rattle.writable_logs.specs.RecordsSay.{hasName, namesOf}
-use Rattle.runs.specs.History.{recordAppended, History, Logged, recordsOf, flushedOf, latestOf}
-use Rattle.runs.specs.Timeouts.{beginningOf, nameAt, abortOf, Appends, EndsInTime, TimesInOrder}
+use Rattle.runs.specs.History.{recordAppended, History, Logged, recordsOf, flushedOf, latestOf, nameAt}
+use Rattle.runs.specs.Timeouts.{beginningOf, abortOf, Appends, EndsInTime, TimesInOrder}
 use Rattle.false_worlds.specs.Ticks.{IsRight, widened, abortAt, FalseTick, fromLastUpdate, renewedStart, fromTransactionBefore, atTheTimeout, unflushedWidening, preparedAborted, higherPlace, bothAborted, otherPlace, epochKept, oldClock, otherStart, narrowerSet, committed, silent, spuriousRecord, falseTick, TrueTick, stillInTime, outlivedTimeout, trueTick, FalseTimes, startedLater, updatedLater, falseTimes}
 use Rattle.false_worlds.specs.Histories.{name7}
 use Rattle.false_worlds.proofs.Differ.{apart, above}

@@ -15,6 +15,7 @@ use Rattle.record.specs.declared.Record.{Record}
 use Rattle.record.specs.declared.Status.{Status}
 use Rattle.record.specs.declared.Status.the-variants.{Empty, Begin, PrepareCommit, PrepareAbort, CompleteCommit, CompleteAbort}
 use Rattle.search.specs.Search.{find, findLast, found, filter, countWhere}
+use Rattle.writable_logs.specs.RecordsSay.{namesOf}
 
 -- an order with what it carries, and the number of the record that it is for: "An order is for its place's latest record then"
 pub record Order : Type 0 where
@@ -210,6 +211,14 @@ recordNumbered number h = find (λ (x : Logged). eqb (x .number) number) (record
 -- the latest record of a name
 abbrev pub latestOf : List ℕ → History → Option Logged
 latestOf name h = find (isOf name) (recordsOf h)
+
+-- "Places run from 0 by first appearance in the log."
+abbrev pub names : History → List (List ℕ)
+names h = namesOf (contents (recordsOf h))
+
+-- the name at a place
+abbrev pub nameAt : History → ℕ → List ℕ
+nameAt h place = getD (names h) place []
 
 -- the next record of the same name
 abbrev pub nextOf : Logged → History → Option Logged

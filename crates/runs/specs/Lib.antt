@@ -8,3 +8,4 @@ pub mod InEveryRun
 pub mod SameCalls
 pub mod Completing
 pub mod Timeouts
+pub mod ExactOrders

@@ -7,7 +7,7 @@ use mathlib.Core.List.{List, [], _∷_, _++_}
 use mathlib.Core.Option.{Option, none, some}
 use lib.Dec.{eqb, ltb}
 use lib.IntN.{ℤ, pos}
-use lib.ListN.{length, getD}
+use lib.ListN.{length}
 use mir.Syntax.{w64}
 use Rattle.numbers.specs.Signed.{fits, toNat}
 use Rattle.record.specs.Record.{idle, statusCode}
@@ -19,8 +19,7 @@ use Rattle.row.specs.declared.Row.{Row}
 use Rattle.table.specs.Table.{rowAt}
 use Rattle.coordinator.specs.Calls.{tickCall, answered}
 use Rattle.coordinator.specs.declared.Coordinator.{Coordinator}
-use Rattle.writable_logs.specs.RecordsSay.{namesOf}
-use Rattle.runs.specs.History.{recordAppended, History, Logged, recordsOf, contents, isFlushed, isOf, latestOf}
+use Rattle.runs.specs.History.{recordAppended, History, Logged, recordsOf, isFlushed, isOf, latestOf, names, nameAt}
 use Rattle.runs.specs.World.{up, World, FirstOpening, Accepted, start, own, Item, call, step, run}
 
 -- ---- what the history says of a transaction
@@ -48,17 +47,9 @@ isDue clock h name = found (isFlushed h) (latestOf name h) && found (outlived cl
 
 -- ---- what a Tick does
 
--- "Places run from 0 by first appearance in the log."
-abbrev pub names : History → List (List ℕ)
-names h = namesOf (contents (recordsOf h))
-
 -- "the lowest place" that is due, and the number of names where none is
 abbrev pub duePlace : ℕ → History → ℕ
 duePlace clock h = firstWhere (isDue clock h) (names h)
-
--- the name at a place
-abbrev pub nameAt : History → ℕ → List ℕ
-nameAt h place = getD (names h) place []
 
 -- the latest record at the lowest place that is due
 abbrev pub dueRecord : ℕ → History → Option Logged

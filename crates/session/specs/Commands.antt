@@ -14,12 +14,13 @@ use Rattle.answers.specs.declared.ReadAnswer.{ReadAnswer}
 use Rattle.answers.specs.declared.ReadAnswer.the-variants.{Copied, Refused}
 use Rattle.coordinator.specs.Coordinator.{logEnd}
 use Rattle.coordinator.specs.Order.{order}
+use Rattle.coordinator.specs.Left.{left}
 use Rattle.partition.specs.Read.{readAnswer}
 use Rattle.coordinator.specs.Calls.{initCall, addCall, endCall, tickCall, flushCall, ackCall}
 use Rattle.server.specs.Calls.{Call, openLog, call, produceCall, markerCall, readCall, answerOf, afterCall}
 use Rattle.server.specs.Lines.{catalogueText}
 use Rattle.command.specs.declared.Command.{Command}
-use Rattle.command.specs.declared.Command.the-variants.{Init, Add, End, Tick, Flush, Put, Carry, Read, Cut, Unknown}
+use Rattle.command.specs.declared.Command.the-variants.{Init, Add, End, Tick, Flush, Put, Carry, Read, Cut, Left, Unknown}
 use Rattle.fields.specs.Fields.{bytesOf}
 use Rattle.session.specs.Limits.{firstPid, lastPid, lastEpoch}
 use Rattle.session.specs.Memory.{Memory, memory, indexOf, serverAt, withServer}
@@ -118,6 +119,7 @@ performed (Put name pid epoch position sequence payload) line m =
 performed (Carry up) line m = carried (order (m .session .coordinator) up) m
 performed (Read position) line m = reads position m
 performed (Cut kept) line m = cuts kept m
+performed (Left place) line m = stays (accepted (pos (left (m .session .coordinator) place) ∷ [])) m
 performed Unknown line m = stays (accepted []) m
 
 -- the commands that are lent the log buffer alone; for any other, nothing
@@ -131,6 +133,7 @@ performedOnLog (Put name pid epoch position sequence payload) line m = stays (ac
 performedOnLog (Carry up) line m = stays (accepted []) m
 performedOnLog (Read position) line m = stays (accepted []) m
 performedOnLog (Cut kept) line m = performed (Cut kept) line m
+performedOnLog (Left place) line m = stays (accepted []) m
 performedOnLog Unknown line m = stays (accepted []) m
 
 -- ---- contracts

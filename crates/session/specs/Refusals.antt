@@ -14,7 +14,7 @@ use Rattle.server.specs.Calls.{openLog, call, produceCall, markerCall, readCall
 use Rattle.server.specs.Demand1.{refusalsOf}
 use Rattle.server.specs.Lines.{catalogueText}
 use Rattle.command.specs.declared.Command.{Command}
-use Rattle.command.specs.declared.Command.the-variants.{Init, Add, End, Tick, Flush, Put, Carry, Read, Cut, Unknown}
+use Rattle.command.specs.declared.Command.the-variants.{Init, Add, End, Tick, Flush, Put, Carry, Read, Cut, Left, Unknown}
 use Rattle.session.specs.Limits.{firstPid, lastPid, firstEpoch}
 use Rattle.session.specs.Memory.{Memory, indexOf}
 use Rattle.fields.specs.Fields.{bytesOf}
@@ -36,6 +36,7 @@ commandRefusals (Put name pid epoch position sequence payload) line m = refusals
 commandRefusals (Carry up) line m = carryRefusals (order (m .session .coordinator) up)
 commandRefusals (Read position) line m = 3 ∷ refusalsOf (readCall 0)
 commandRefusals (Cut kept) line m = 7 ∷ refusalsOf (openLog catalogueText 0 firstEpoch firstPid lastPid)
+commandRefusals (Left place) line m = []
 commandRefusals Unknown line m = []
 
 -- the memory once an order's Marker was called
@@ -54,6 +55,7 @@ keptBy (Put name pid epoch position sequence payload) m = m
 keptBy (Carry up) m = delivered (order (m .session .coordinator) up) m
 keptBy (Read position) m = m
 keptBy (Cut kept) m = m
+keptBy (Left place) m = m
 keptBy Unknown m = m
 
 -- the session and the buffers are of any making

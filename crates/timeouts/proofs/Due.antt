@@ -21,12 +21,12 @@ use Rattle.table.specs.Table.{rowAt}
 use Rattle.coordinator.specs.Tick.{overdue, overduePlace}
 use Rattle.coordinator.specs.declared.Coordinator.{Coordinator}
 use Rattle.writable_logs.proofs.Places.{place-named, places-are}
-use Rattle.runs.specs.History.{History, Logged, recordsOf, contents, isFlushed, latestOf}
+use Rattle.runs.specs.History.{History, Logged, recordsOf, contents, isFlushed, latestOf, names}
 use Rattle.protocol.specs.HistoryInvariant.{HistoryInvariant}
 use Rattle.agreement.proofs.Invariant.{UpLog}
 use Rattle.agreement.proofs.FlushedFirst.{proper}
 use Rattle.agreement.proofs.LiveTable.{live-ready, live-row, starts-of, live-record-at}
-use Rattle.runs.specs.Timeouts.{isDue, names, duePlace}
+use Rattle.runs.specs.Timeouts.{isDue, duePlace}
 use Rattle.timeouts.proofs.Beginning.{unbegun, begun}
 
 -- ---- what is overdue, by the numbers of the row

@@ -10,8 +10,8 @@ use Rattle.numbers.proofs.Tests.{not-both}
 use Rattle.search.specs.Search.{found, Each}
 use Rattle.search.proofs.Laws.{first-found, first-before}
 use Rattle.answers.specs.Answers.{Reply}
-use Rattle.runs.specs.History.{History, Logged, isFlushed, latestOf}
-use Rattle.runs.specs.Timeouts.{isBegin, beginningOf, isDue, names, nameAt, duePlace, Ticks, BeganAt, EndsInTime}
+use Rattle.runs.specs.History.{History, Logged, isFlushed, latestOf, names, nameAt}
+use Rattle.runs.specs.Timeouts.{isBegin, beginningOf, isDue, duePlace, Ticks, BeganAt, EndsInTime}
 
 -- a record of another status begins nothing
 none-under-way : (older : List Logged) → ((x : Logged) (rest : List Logged) → older ≡ x ∷ rest → isBegin x ≡ false) → beginningOf older ≡ none

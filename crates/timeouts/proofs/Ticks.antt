@@ -39,7 +39,7 @@ use Rattle.coordinator.specs.Tick.{overduePlace, tickTests, tick}
 use Rattle.coordinator.specs.declared.Coordinator.{Coordinator}
 use Rattle.coordinator.proofs.TickCases.{overdue-found, tick-aborted, tick-none}
 use Rattle.writable_logs.proofs.Written.{written-admits}
-use Rattle.runs.specs.History.{recordAppended, History, Logged, recordsOf, contents, isOf, latestOf}
+use Rattle.runs.specs.History.{recordAppended, History, Logged, recordsOf, contents, isOf, latestOf, names}
 use Rattle.runs.specs.World.{Phase, up, World, catalogueOf, start, own, call, next, step, run, whileUp, coordinatorLent, historyAfter}
 use Rattle.protocol.specs.HistoryInvariant.{HistoryInvariant}
 use Rattle.protocol.proofs.TableOfRecords.{come-record}
@@ -47,7 +47,7 @@ use Rattle.agreement.proofs.Invariant.{UpLog, Invariant}
 use Rattle.agreement.proofs.FlushedFirst.{proper}
 use Rattle.agreement.proofs.Preserves.{log-of}
 use Rattle.agreement.proofs.LiveTable.{live-ready, live-record-at, RecordAt}
-use Rattle.runs.specs.Timeouts.{names, duePlace, dueRecord, abortOf, Appends, Ticks}
+use Rattle.runs.specs.Timeouts.{duePlace, dueRecord, abortOf, Appends, Ticks}
 use Rattle.timeouts.proofs.Due.{name-at, whole, due-nowhere, due-within, due-there}
 
 -- ---- the record of an abort

@@ -1,0 +1,3 @@
+-- Laws of the crate exact_orders: the theorem of request 11 of document 02.
+-- the acknowledged sets are those of the history
+mod Acknowledged
