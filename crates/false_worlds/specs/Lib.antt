@@ -11,3 +11,4 @@ pub mod Tables
 pub mod Unwritten
 pub mod Pids
 pub mod Ticks
+pub mod ExactOrders
