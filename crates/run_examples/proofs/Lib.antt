@@ -6,3 +6,4 @@ pub mod Values
 pub mod Demanded
 pub mod Lists
 pub mod Timeouts
+pub mod ExactOrders

@@ -5,3 +5,4 @@ pub mod Examples
 pub mod Values
 pub mod Lists
 pub mod Timeouts
+pub mod ExactOrders
