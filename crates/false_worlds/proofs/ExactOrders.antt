@@ -9,13 +9,14 @@ use lib.ListN.{length}
 use borrow.Author.Tests.{leb-true, ltb-true}
 use Rattle.numbers.specs.Bytes.{same}
 use Rattle.bits.specs.Bits.{members}
-use Rattle.search.specs.Search.{find, findLast, countWhere}
+use Rattle.search.specs.Search.{find, findLast, filter, countWhere}
 use Rattle.coordinator.specs.Left.{left}
 use Rattle.writable_logs.specs.RecordsSay.{hasName, namesOf}
-use Rattle.runs.specs.History.{collect, endingBy, recordsOf, isCompleted}
+use Rattle.runs.specs.History.{collect, endingBy, recordsOf, flushedOf, isCompleted}
 use Rattle.runs.specs.World.{World}
 use Rattle.runs.specs.ExactOrders.{acknowledgedOrders, notAcknowledged, carriedSince, Continued}
 use Rattle.false_worlds.specs.ExactOrders.{Count, IsExact, FalseCount, oneEarly, noneCarried, orderForAnother, oneLate, allCounted, offeredAgain, completedByThree, otherPosition, keptOverCut, nothingLeft, falseCount, TrueCount, atOnce, afterOne, afterBoth, afterwards, fromHalf, fromCut, fromOpening, nextPrepare, trueCount, IsShown, FalseDisplay, showsAll, keepsOverCut, keepsOverPrepare, showsCompleted, hidesFlushed, hidesAppended, showsBegin, falseDisplay, TrueDisplay, ofBegin, ofAppended, ofFlushed, ofHalf, ofCompleted, ofNoName, pastLast, trueDisplay}
+use Rattle.false_worlds.specs.Histories.{withHistory}
 use Rattle.false_worlds.specs.Progress.{NoOrder, withoutOrder, NotAccepted, notAccepted}
 use Rattle.false_worlds.proofs.Differ.{differ, fails, above}
 use Rattle.false_worlds.proofs.Progress.{no-order-given, carrying-refused}
@@ -88,7 +89,12 @@ true-displays ofCompleted = refl
 true-displays ofNoName = refl
 true-displays pastLast = refl
 
--- ---- no order, or one that is refused
+-- ---- an undisturbed list does not lead there
+
+-- one early
+pub count-lost : Continued (withHistory (falseCount oneEarly .earlier)) (withHistory (falseCount oneEarly .later)) → ⊥
+unfolding recordsOf flushedOf find findLast filter same
+count-lost = λ c. let (here, rest) = c .exactly in false-counts oneEarly here
 
 pub order-lost : (w : World) (x : NoOrder) → Continued w (withoutOrder x) → ⊥
 order-lost w x = λ c. no-order-given x (c .orders-given)

@@ -14,11 +14,13 @@ use Rattle.server.specs.Demand1.{Demand1}
 use Rattle.server.specs.Admitted.{Admitted, Admits, Next, afterEach, openedWith}
 use Rattle.coordinator.specs.Calls.{tickCall, flushCall, answered}
 use Rattle.coordinator.specs.Coordinator.{logEnd}
-use Rattle.runs.specs.World.{Accepted, start, up, own, Item, call as called, cut, step}
+use Rattle.runs.specs.World.{catalogueOf, Accepted, start, up, down, own, Item, call as called, cut, step}
 use Rattle.runs.specs.Completing.{Completing, carryEach, ordersLeft, AllCompleted}
-use Rattle.runs.specs.Demand3.{Demand3, Promised}
+use Rattle.runs.specs.Demand3.{Undisturbed, Demand3, Promised}
 use Rattle.runs.specs.InEveryRun.{InEveryRun, AdmitsExactly, ReadsCommitted, PidsOnce}
 use Rattle.runs.specs.Timeouts.{Timeouts, TimesInOrder, Ticks, EndsInTime}
+use Rattle.runs.specs.ExactOrders.{notAcknowledged, shownAt, Continued, ExactOrders}
+use Rattle.coordinator.specs.Left.{left}
 use mathlib.Core.Path.{_≡_, refl}
 use lib.Count.{ones, trailingZeros}
 use mir.Syntax.{w64}
@@ -57,11 +59,12 @@ use Rattle.partition.specs.Read.{nextMarker, committed, copy, readTests as read
 use Rattle.partition.specs.Append.{lastSequence, nextSequence, produced, partitionFull}
 use Rattle.server.specs.Produce.{produceRowTests, produceTests, produce}
 use Rattle.log_reader.specs.Records.{framesOf, tableOf}
-use Rattle.runs.specs.History.{collect, collectWithBefore, endingBy, recordsOf, flushedOf, wordsOf}
+use Rattle.runs.specs.History.{Logged, collect, collectWithBefore, endingBy, recordsOf, flushedOf, listed, pendingPrepares, wordsOf}
 use Rattle.runs.specs.World.{openLeaders, run, recordsRead}
-use Rattle.run_examples.specs.Runs.{lengthLeft, opened, shared, straight, afterCut, afterShared, openedLater, writerItems, leftRecords, leftRest}
-use Rattle.run_examples.specs.Examples.{cutRunItems}
+use Rattle.run_examples.specs.Runs.{lengthLeft, opened, reopening, shared, straight, afterCut, afterShared, openedLater, writerItems, leftRecords, leftRest}
+use Rattle.run_examples.specs.Examples.{after, cutRunItems}
 use Rattle.run_examples.specs.Timeouts.{flushed, itemsOf, afterWidening}
+use Rattle.run_examples.specs.ExactOrders.{halfCut}
 
 -- the first openings are accepted
 pub opened-accepted : Accepted opened
@@ -111,6 +114,22 @@ pub demanded-in-time : Timeouts → (s : Coordinator) → afterWidening .phase �
     → EndsInTime (max (s .clock) (toNat time)) (afterWidening .history) (answered (tickCall time) (record { state = s; log = afterWidening .log }))
     (step (called own (tickCall time)) afterWidening .history)
 demanded-in-time t s e = t opened opened-accepted (itemsOf flushed) s e .ends-in-time
+
+-- exactly that many orders: the display at the end of the shared list; the straight run from there, which is undisturbed; and after a cut there
+pub demanded-display : ExactOrders → (s : Coordinator) → afterShared .phase ≡ up s → (place : ℕ) → left s place ≡ shownAt (afterShared .history) place
+demanded-display r s e = r .shows opened opened-accepted shared s e
+
+straight-undisturbed : Each (Undisturbed (catalogueOf afterShared .all)) straight
+unfolding openLeaders run collect collectWithBefore endingBy recordsOf framesOf flushedOf wordsOf recordsRead find findLast filter ones overwrite same bigEndian integerBytes untilZero members nameByte nameRun isLine lineAt isNew catalogueLines parse nameBytes key partitionBytes topicEntry topicBytes topicsBelow countBelow topics value frame firstWhere countWhere sumOf firstRefusal nameFits scanWithin placeOf lowestFree idCount reserved apply admits notHeld logFull appended readTests takeOverTests openTests opening initRow initTests initRowTests initAccepted init allJoined addRow addTests addRowTests addAction add overdue overduePlace tickTests tickAccepted tick flushTests flush openPartition openCount partitionAdmits lastSequence nextSequence produced partitionFull produceTests produceRowTests produce readFrameWithin judged candidate wellFormed validName fieldsFit joinedFits startFits integerOf numberFrom walk past topicAt nameStands partitionsAt partitionsOf partitionsBelow withPartition mayCome succeeds first follows keeps mayFollowStatus initializes begins widens preparesCommit preparesAbort completes ackTests ackRowTests ackAction ack acknowledged endFits endTests endRowTests endAction end ordered orderPlace order markerTests closed markerAction marker oldest nextMarker committed copy readOffsetTests readAnswer readOut trailingZeros
+straight-undisturbed = (refl, (tt, (tt, tt)))
+
+pub demanded-exactly : ExactOrders → Continued afterShared (run straight afterShared)
+demanded-exactly r = r .completes opened opened-accepted shared straight straight-undisturbed
+
+pub demanded-after-cut : ExactOrders → (n before : ℕ) → after halfCut .phase ≡ down n before
+    → let h = step reopening (after halfCut) .history in
+    Each (λ (p : Logged). notAcknowledged p h ≡ listed p) (pendingPrepares h)
+demanded-after-cut r n before e = r .none-after-cut opened opened-accepted halfCut n before (pos 2) (pos 1000) (pos 1999) e
 
 -- demand 2: what the cut left is opened, and what was not opened could not have been written
 module _ (d : Demand2) (log : List ℕ) (i : InOrder scanText log lengthLeft (pos 2) (pos 1000) (pos 1999)) where
