@@ -48,6 +48,6 @@ exact-orders acknowledged =
       none-after-cut = λ o accepted items n before epoch first last u.
           let w = run items (start o) in
           let i = always o accepted items in
-          let none-left : NoneAcknowledged w = subst (λ (y : Phase). RowsAcknowledged y (w .history)) u (acknowledged o accepted items .rows) in
-          all-left (step (reopen epoch first last) w) (step-preserves w i (reopen epoch first last) .holds (step-own (reopen epoch first last) w (i .own))) (reopened-none w none-left epoch first last);
+          let empty : NoneAcknowledged w = subst (λ (y : Phase). RowsAcknowledged y (w .history)) u (acknowledged o accepted items .rows) in
+          all-left (step (reopen epoch first last) w) (step-preserves w i (reopen epoch first last) .holds (step-own (reopen epoch first last) w (i .own))) (reopened-none w empty epoch first last);
     }

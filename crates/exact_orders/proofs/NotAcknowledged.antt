@@ -51,4 +51,4 @@ left-is w i a p e prepares = go (w .phase) refl (a .rows)
         let row = rowAt (s .table) k in
         by-set p (w .history) (record-parts w i p there .joined-below) (row .acknowledged) (acks-of w i s u .small k) (rows p e prepares)
         ∙ ap (λ (n : ℕ). count (difference n (row .acknowledged))) (sym (row-joined w i s u k p there prepares (row-of w i s u (p .content .name) p e)))
-    go (down n before) u none-left = none-acknowledged p (w .history) (record-parts w i p there .joined-below) none-left
+    go (down n before) u empty = none-acknowledged p (w .history) (record-parts w i p there .joined-below) empty
