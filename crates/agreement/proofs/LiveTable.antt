@@ -1,13 +1,13 @@
 -- The coordinator's table and the history: the row of a name is its latest record, and the record that a call appends may come next.
-use Prim.Native.Nat.{ℕ, _+_, _<_}
+use Prim.Native.Nat.{ℕ, _+_, _≤_, _<_}
 use mathlib.Core.Path.{_≡_, refl, sym, ap, subst, _∙_}
 use mathlib.Core.Bool.{true, false}
-use mathlib.Core.List.{List}
-use mathlib.Core.Option.{some}
+use mathlib.Core.List.{List, []}
+use mathlib.Core.Option.{none, some}
 use native.Mathlib.Omega.{arith}
 use lib.Dec.{ltb}
 use lib.ListN.{length, getD}
-use borrow.Author.Tests.{eqb-false, ltb-false, le-leb, lt-ltb}
+use borrow.Author.Tests.{eqb-true, eqb-false, ltb-false, le-leb, lt-ltb}
 use Rattle.numbers.proofs.Tests.{not-both}
 use Rattle.catalogue.specs.declared.Catalogue.{Catalogue}
 use Rattle.record.proofs.Bounds.{formed-starts}
@@ -24,8 +24,9 @@ use Rattle.log_reader.specs.Records.{tableOf}
 use Rattle.coordinator.specs.Coordinator.{logEnd, rowFrame, unflushed}
 use Rattle.coordinator.specs.declared.Coordinator.{Coordinator}
 use Rattle.writable_logs.proofs.Lawful.{Ready, ComesNext}
+use Rattle.writable_logs.proofs.Places.{place-named, places-are}
 use Rattle.writable_logs.proofs.Written.{written-ready, written-end}
-use Rattle.runs.specs.History.{History, Logged, recordsOf, contents, endOf, flushedOf, isFlushed, latestOf, isOf}
+use Rattle.runs.specs.History.{History, Logged, recordsOf, contents, endOf, flushedOf, isFlushed, latestOf, isOf, names}
 use Rattle.protocol.specs.HistoryInvariant.{HistoryInvariant}
 use Rattle.protocol.specs.NextEvent.{NothingOpen, Appendable}
 use Rattle.protocol.proofs.Cuts.{ends-length, latest-name}
@@ -84,6 +85,19 @@ module _ (c : Catalogue) (log : List ℕ) (s : Coordinator) (h : History) (u : U
         place = sym (live-place name) ∙ own;
         starts = starts;
       })
+
+  -- what stands at a free place has no record
+  pub free-lacks : (k : ℕ) → free (rowAt (s .table) k) ≡ true → latestOf (rowAt (s .table) k .name) h ≡ none
+  free-lacks k f =
+      let name = rowAt (s .table) k .name in
+      option-either (latestOf name h) (λ e. e) (λ x e. absurd (starts-of name x e (eqb-true (getD name 0 0) 0 f)))
+
+  -- the names stand in the order of first appearance, and the places behind them are free
+  pub name-at : (k : ℕ) → k < length (names h) → rowAt (s .table) k .name ≡ getD (names h) k []
+  name-at k b = ap (λ (row : Row). row .name) (live-row k) ∙ place-named c (contents (recordsOf h)) (t .come) k b
+
+  pub others-free : (k : ℕ) → length (names h) ≤ k → free (rowAt (s .table) k) ≡ true
+  others-free k b = ap free (live-row k) ∙ places-are c (contents (recordsOf h)) (t .come) .others k b
 
   -- ---- a record that comes next
 

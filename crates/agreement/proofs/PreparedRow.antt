@@ -7,8 +7,7 @@ use lib.Bits.{and-le-l}
 use borrow.Author.Tests.{eq-eqb, le-ltb}
 use Rattle.bits.specs.Bits.{count, member, subset}
 use Rattle.bits.proofs.Laws.{count-zero, member-true, subset-same, subset-is, subset-from, left-parts, member-is, subset-trans}
-use Rattle.record.specs.Record.{wellFormed}
-use Rattle.record.proofs.Bounds.{well-formed-parts}
+use Rattle.record.proofs.Bounds.{WellFormed, well-formed-parts}
 use Rattle.search.proofs.Members.{In}
 use Rattle.row.specs.Row.{isPrepare, outstanding, withAcknowledged, held}
 use Rattle.row.specs.declared.Row.{Row}
@@ -23,6 +22,10 @@ use Rattle.protocol.proofs.TableOfRecords.{come-record}
 use Rattle.agreement.proofs.Invariant.{Invariant}
 use Rattle.agreement.proofs.Preserves.{log-of, acks-of}
 
+-- what is known of every record
+pub record-parts : (w : World) → Invariant w → (p : Logged) → In p (recordsOf (w .history)) → WellFormed (catalogueOf w) (p .content)
+record-parts w i p stands = well-formed-parts (catalogueOf w) (p .content) (come-record (catalogueOf w) (recordsOf (w .history)) (i .of-history .come) p stands .0)
+
 module _ (w : World) (i : Invariant w) (s : Coordinator) (u : w .phase ≡ up s) (k : ℕ) (p : Logged) (there : In p (recordsOf (w .history))) (prepare : isPrepare (p .content .status) ≡ true)
     (row-is : withAcknowledged (rowAt (s .table) k) 0 ≡ held (p .content) (p .end)) where
   abbrev row : Row
@@ -31,9 +34,6 @@ module _ (w : World) (i : Invariant w) (s : Coordinator) (u : w .phase ≡ up s)
   abbrev all : ℕ
   all = catalogueOf w .all
 
-  formed : wellFormed (catalogueOf w) (p .content) ≡ true
-  formed = come-record (catalogueOf w) (recordsOf (w .history)) (i .of-history .come) p there .0
-
   pub row-prepares : isPrepare (row .status) ≡ true
   row-prepares = ap (λ (y : Row). isPrepare (y .status)) row-is ∙ prepare
 
@@ -41,7 +41,7 @@ module _ (w : World) (i : Invariant w) (s : Coordinator) (u : w .phase ≡ up s)
   row-joined = ap (λ (y : Row). y .joined) row-is
 
   pub row-small : row .joined < 2 ^ 64
-  row-small = let b = well-formed-parts (catalogueOf w) (p .content) formed .joined-below in omega (arith, row-joined)
+  row-small = let b = record-parts w i p there .joined-below in omega (arith, row-joined)
 
   pub row-flushed : p .end ≤ flushedOf (w .history) → unflushed (s .flushed) row ≡ false
   row-flushed b = let e : row .end ≡ p .end = ap (λ (y : Row). y .end) row-is in le-ltb (s .flushed) (row .end) (omega (arith, log-of w i s u .flushed))
@@ -57,7 +57,7 @@ module _ (w : World) (i : Invariant w) (s : Coordinator) (u : w .phase ≡ up s)
   all-due set more =
       let inside : subset (outstanding row) all ≡ true = subset-is (outstanding row) all (λ x m.
       let (a, _) = left-parts 64 (row .joined) (row .acknowledged) row-small (acks-of w i s u .small k) x (member-is (outstanding row) x m) in
-      subset-from (p .content .joined) all (eq-eqb _ _ (well-formed-parts (catalogueOf w) (p .content) formed .joined-inside)) x
+      subset-from (p .content .joined) all (eq-eqb _ _ (record-parts w i p there .joined-inside)) x
       (member-true (p .content .joined) x (subst (λ (n : ℕ). member n x ≡ true) row-joined a))) in
       subset-same (outstanding row) set (subset-trans (outstanding row) all set inside more)
 

@@ -1,7 +1,7 @@
 -- Histories that grow event by event: what is flushed stays, and a flushed prepare is kept.
 use Prim.Native.Nat.{ℕ, _≤_}
 use mathlib.Core.Path.{_≡_, ap}
-use mathlib.Core.Bool.{true}
+use mathlib.Core.Bool.{true, not, _&&_}
 use mathlib.Core.List.{List, [], _∷_}
 use mathlib.Core.Option.{some}
 use native.Mathlib.Omega.{arith}
@@ -15,7 +15,7 @@ use Rattle.search.proofs.Found.{found-with}
 use Rattle.search.proofs.Members.{In, there, in-cons, in-each}
 use Rattle.search.proofs.Find.{each-filter}
 use Rattle.row.specs.Row.{isPrepare}
-use Rattle.runs.specs.History.{Event, recordAppended, logFlushed, logCut, logOpened, orderGiven, markerWritten, orderCarried, entryWritten, History, Logged, endingBy, recordsOf, flushedOf, isFlushed, isFlushedPrepare, recordNumbered, nextOf, flushedPrepares}
+use Rattle.runs.specs.History.{Event, recordAppended, logFlushed, logCut, logOpened, orderGiven, markerWritten, orderCarried, entryWritten, History, Logged, endingBy, recordsOf, flushedOf, isFlushed, isFlushedPrepare, recordNumbered, nextOf, flushedPrepares, isCompleted, pendingPrepares}
 use Rattle.runs.specs.Demand3.{Completes}
 use Rattle.protocol.specs.HistoryInvariant.{HistoryInvariant}
 use Rattle.protocol.specs.NextEvent.{MayBeNext}
@@ -84,3 +84,7 @@ each-flushed-prepare h P f =
     each-filter P (isFlushedPrepare h) (recordsOf h)
     (in-each _ (recordsOf h) (λ r i e. f r (record { stands = i; flushed = leb-true (r .end) (flushedOf h) (and-right (isPrepare (r .content .status)) (isFlushed h r) e) })
     (and-left (isPrepare (r .content .status)) (isFlushed h r) e)))
+
+-- of each that is not completed
+pub each-pending : (h : History) (P : Logged → Type 0) → ((r : Logged) → In r (recordsOf h) → (isFlushedPrepare h r && not (isCompleted h r)) ≡ true → P r) → Each P (pendingPrepares h)
+each-pending h P f = each-filter P (λ (r : Logged). isFlushedPrepare h r && not (isCompleted h r)) (recordsOf h) (in-each _ (recordsOf h) f)

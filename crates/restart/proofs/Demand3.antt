@@ -1,4 +1,4 @@
--- The theorem of demand 3 (`demand-3`), and the exact count of carried orders behind its last sentence (`exactly`). Why it holds:
+-- The theorem of demand 3 (`demand-3`). Why it holds:
 -- Both runs go on from the world that the shared list reaches, and the invariant holds in every world of a run (`always`). So each clause is shown once,
 -- of any list from any world with the invariant; the cut run is the list that starts with the cut and the opening.
 -- Kept: no cut takes a flushed record, so a flushed prepare stands in both runs; the record that follows it for its name completes it, with its producer.
@@ -9,21 +9,21 @@
 -- are left than it lists partitions, it completes after at most that many carried orders.
 use Prim.Native.Nat.{ℕ, _+_, _-_, _≤_, _<_, _^_}
 use mathlib.Core.Path.{_≡_, refl, sym, ap, subst, _∙_}
-use mathlib.Core.Bool.{true, false, not, _&&_, true≢false}
+use mathlib.Core.Bool.{true, not, _&&_, true≢false}
 use mathlib.Core.List.{List, [], _∷_}
 use mathlib.Core.Option.{none, some}
 use native.Mathlib.Omega.{arith}
 use lib.ListN.{length}
 use borrow.Author.Tests.{leb-true}
-use Rattle.numbers.proofs.Tests.{not-both, and-left, and-right}
+use Rattle.numbers.proofs.Tests.{and-left, and-right}
 use Rattle.bits.specs.Bits.{count}
 use Rattle.bits.proofs.Laws.{count-zero, count-part}
 use Rattle.catalogue.specs.Catalogue.{parse}
-use Rattle.record.proofs.Bounds.{some-joined, well-formed-parts}
+use Rattle.record.proofs.Bounds.{some-joined}
 use Rattle.search.specs.Search.{Each, found}
 use Rattle.search.proofs.Found.{found-is}
-use Rattle.search.proofs.Members.{In, in-each}
-use Rattle.search.proofs.Find.{each-filter, find-in}
+use Rattle.search.proofs.Members.{In}
+use Rattle.search.proofs.Find.{find-in}
 use Rattle.row.specs.Row.{isPrepare}
 use Rattle.row.proofs.Laws.{prepare-busy}
 use Rattle.table.specs.Table.{rowAt, placeOf}
@@ -33,12 +33,11 @@ use Rattle.runs.specs.Demand3.{Keeps, Kept, Undisturbed, CompletesInTime, Promi
 use Rattle.runs.proofs.Admitted.{step-own}
 use Rattle.runs.proofs.Epochs.{Epochs, start-epochs, run-epochs}
 use Rattle.protocol.specs.HistoryInvariant.{HistoryInvariant}
-use Rattle.protocol.proofs.TableOfRecords.{come-record}
 use Rattle.protocol.proofs.AfterPrepare.{latest-last}
-use Rattle.protocol.proofs.Extends.{FlushedIn, flushed-stays, each-flushed-prepare, kept-stands, kept-next, extends-keeps}
+use Rattle.protocol.proofs.Extends.{FlushedIn, flushed-stays, each-flushed-prepare, each-pending, kept-stands, kept-next, extends-keeps}
 use Rattle.agreement.proofs.Invariant.{Invariant}
 use Rattle.agreement.proofs.Preserves.{row-of}
-use Rattle.agreement.proofs.PreparedRow.{row-joined, row-small, some-outstanding}
+use Rattle.agreement.proofs.PreparedRow.{record-parts, row-joined, row-small, some-outstanding}
 use Rattle.agreement.proofs.Steps.{step-preserves, Reached, run-reached, always}
 use Rattle.restart.proofs.HoldsAt.{holds-at, pending-latest}
 use Rattle.restart.proofs.TotalOrders.{leftOf, TotalOrders, finished, unfinished}
@@ -87,22 +86,22 @@ module _ (w : World) (i : Invariant w) (p : Logged) (there : In p (recordsOf (w 
   is-flushed : FlushedIn h p
   is-flushed = record { stands = there; flushed = leb-true (p .end) (flushedOf h) (and-right (isPrepare (p .content .status)) (isFlushed h p) (and-left (isFlushedPrepare h p) (not (isCompleted h p)) pending)) }
 
-  total : TotalOrders p (carriedFor p h + leftOf p (w .phase)) (run items w .phase) v
+  pub total : TotalOrders p (carriedFor p h + leftOf p (w .phase)) (run items w .phase) v
   total = run-counts (catalogueOf w .all) p prepares (carriedFor p h + leftOf p (w .phase)) items w refl i is-flushed (unfinished (pending-latest w i p there pending) refl) undisturbed
 
   after : Reached w (run items w)
   after = run-reached items w i
 
   small : p .content .joined < 2 ^ 64
-  small = well-formed-parts (catalogueOf w) (p .content) (come-record (catalogueOf w) (recordsOf h) (i .of-history .come) p there .0) .joined-below
+  small = record-parts w i p there .joined-below
 
   joins-some : 0 < p .content .joined
   joins-some =
       some-joined (p .content .status) (p .content .joined) (prepare-busy (p .content .status) prepares)
-      (well-formed-parts (catalogueOf w) (p .content) (come-record (catalogueOf w) (recordsOf h) (i .of-history .come) p there .0) .joined-status)
+      (record-parts w i p there .joined-status)
 
   -- while it is not completed some partition is left
-  some-left : latestOf (p .content .name) v ≡ some p → 1 ≤ leftOf p (run items w .phase)
+  pub some-left : latestOf (p .content .name) v ≡ some p → 1 ≤ leftOf p (run items w .phase)
   some-left e = go (run items w .phase) refl
     where
       go : (y : Phase) → run items w .phase ≡ y → 1 ≤ leftOf p y
@@ -126,23 +125,11 @@ module _ (w : World) (i : Invariant w) (p : Logged) (there : In p (recordsOf (w 
           omega (arith, ap count (row-joined w i s u k p there prepares row-is))
       go (down m before) u = omega arith
 
-  latest-open : latestOf (p .content .name) v ≡ some p → isCompleted v p ≡ true → ⊥
+  pub latest-open : latestOf (p .content .name) v ≡ some p → isCompleted v p ≡ true → ⊥
   latest-open e q =
       let z : nextOf p v ≡ none = latest-last p (length v) (recordsOf v) (after .invariant .of-history .numbered) e in
       let f : found _ (nextOf p v) ≡ true = and-right (isPrepare (p .content .status)) _ q in
       true≢false (sym (rw z at f))
-
-  -- it completes at the order that is the last of those it had left, and not before
-  pub record Exactly : Type 0 where
-    pub when-completed : isCompleted v p ≡ true → carriedFor p v ≡ carriedFor p h + leftOf p (w .phase)
-    pub until-then : isCompleted v p ≡ false → carriedFor p v < carriedFor p h + leftOf p (w .phase)
-
-  pub exactly : Exactly
-  exactly = go total
-    where
-      go : TotalOrders p (carriedFor p h + leftOf p (w .phase)) (run items w .phase) v → Exactly
-      go (finished e f) = record { when-completed = λ q. f; until-then = λ q. not-both q e }
-      go (unfinished e f) = record { when-completed = λ q. absurd (latest-open e q); until-then = λ q. let b = some-left e in omega arith }
 
   in-time : carriedFor p h + listed p ≤ carriedFor p v → isCompleted v p ≡ true
   in-time b = go total
@@ -153,8 +140,7 @@ module _ (w : World) (i : Invariant w) (p : Logged) (there : In p (recordsOf (w 
 
 completes-in-time : (w : World) → Invariant w → (items : List Item) → CompletesInTime w items
 completes-in-time w i items undisturbed =
-    each-filter _ (λ (p : Logged). isFlushedPrepare (w .history) p && not (isCompleted (w .history) p)) (recordsOf (w .history))
-    (in-each _ (recordsOf (w .history)) (λ p there pending. in-time w i p there pending items undisturbed))
+    each-pending (w .history) _ (λ p there pending. in-time w i p there pending items undisturbed)
 
 -- ---- the theorem
 

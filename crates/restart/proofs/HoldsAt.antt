@@ -13,8 +13,7 @@ use Rattle.catalogue.specs.declared.Catalogue.{Catalogue}
 use Rattle.record.specs.Record.{statusCode}
 use Rattle.search.specs.Search.{Each, Found}
 use Rattle.search.proofs.Found.{found-with}
-use Rattle.search.proofs.Members.{In, each-in, in-each}
-use Rattle.search.proofs.Find.{each-filter}
+use Rattle.search.proofs.Members.{In, each-in}
 use Rattle.search.proofs.Each.{each-place}
 use Rattle.answers.specs.Limits.{places}
 use Rattle.answers.specs.Answers.{reply, orderReply}
@@ -42,6 +41,7 @@ use Rattle.runs.specs.Demand3.{Completes, LogAgrees, SameLengths, WordsAgree, I
 use Rattle.protocol.specs.Entries.{Entry, entriesOf}
 use Rattle.protocol.specs.HistoryInvariant.{ForPrepare}
 use Rattle.protocol.proofs.AfterPrepare.{After, latest, completed, after-prepare}
+use Rattle.protocol.proofs.Extends.{each-pending}
 use Rattle.protocol.proofs.MarkerOver.{under-over}
 use Rattle.protocol.proofs.UnderVerdict.{under-verdict}
 use Rattle.agreement.proofs.Invariant.{LogSide, UnderWay, CarryingSide, Invariant}
@@ -142,8 +142,7 @@ pending-latest w i p j e = go (after-prepare c (length h) (recordsOf h) (i .of-h
 
 orders-given-up : (w : World) → Invariant w → (s : Coordinator) → w .phase ≡ up s → OrdersGiven (up s) w
 orders-given-up w i s u =
-    each-filter _ (λ (p : Logged). isFlushedPrepare h p && not (isCompleted h p)) (recordsOf h)
-    (in-each _ (recordsOf h) (λ p j e set more. go p j e set more))
+    each-pending h _ go
   where
     c : Catalogue
     c = catalogueOf w
@@ -165,7 +164,7 @@ orders-given-up w i s u =
         let inside : k < places = place-inside w i s u (p .content .name) p is in
         rw (order-given s set (omega arith)) (le-leb (orderPlace s set) k (omega arith))
 
-orders-given : (w : World) → Invariant w → OrdersGiven (w .phase) w
+pub orders-given : (w : World) → Invariant w → OrdersGiven (w .phase) w
 orders-given w i = go (w .phase) refl
   where
     go : (p : Phase) → w .phase ≡ p → OrdersGiven p w

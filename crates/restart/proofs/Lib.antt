@@ -5,7 +5,7 @@ pub mod HoldsAt
 pub mod TotalOrders
 -- every undisturbed item keeps it
 pub mod TotalOrdersKept
--- demand 3, and why it holds; the exact count of carried orders
+-- demand 3, and why it holds
 pub mod Demand3
 -- what stands at an offset of a partition
 pub mod Offsets

@@ -17,7 +17,6 @@ use Rattle.bits.proofs.Laws.{count-left, member-true, member-false, difference-
 use Rattle.catalogue.specs.Catalogue.{parse}
 use Rattle.catalogue.specs.declared.Catalogue.{Catalogue}
 use Rattle.record.specs.Record.{statusCode}
-use Rattle.record.proofs.Bounds.{well-formed-parts}
 use Rattle.search.specs.Search.{found}
 use Rattle.search.proofs.Found.{some-same}
 use Rattle.search.proofs.Members.{In, each-in}
@@ -53,7 +52,6 @@ use Rattle.runs.proofs.Unchanged.{flush-elsewhere}
 use Rattle.runs.proofs.Cases.{step-cases, while-up-cases, lent-cases, leader-cases, deliverable-cases, acknowledgeable-cases, read-cases, reopened-cases, answered-cases}
 use Rattle.protocol.specs.HistoryInvariant.{HistoryInvariant}
 use Rattle.protocol.proofs.Cuts.{numbered-same, numbered-below}
-use Rattle.protocol.proofs.TableOfRecords.{come-record}
 use Rattle.protocol.proofs.Events.{collect-same, marker-records, entry-records, given-records, opened-records, carried-records, flush-records, appended-records, newRecord}
 use Rattle.protocol.proofs.Consequences.{for-latest}
 use Rattle.agreement.proofs.Invariant.{UpLog, LogSide, placeIn, UnderWay, Invariant}
@@ -61,6 +59,7 @@ use Rattle.agreement.proofs.FlushedFirst.{FlushedFirst, call-flushed-first}
 use Rattle.agreement.proofs.LiveTable.{live-latest}
 use Rattle.agreement.proofs.Tables.{place-name}
 use Rattle.agreement.proofs.Preserves.{log-of, acks-of, carrying-of, place-of, ready-of, row-of, rows-of}
+use Rattle.agreement.proofs.PreparedRow.{record-parts}
 use Rattle.agreement.proofs.Delivers.{place-below, prepare-of}
 use Rattle.agreement.proofs.Acknowledges.{row-is, ack-passes, row-joins, joined-small, position-below}
 use Rattle.agreement.proofs.Restarts.{opening-valid, elsewhere-cases, not-admitted}
@@ -296,7 +295,7 @@ module _ (p : Logged) (prepares : isPrepare (p .content .status) ≡ true) (n : 
           let row-is = live-latest c (v .log) s (v .history) log-up invariant-up (p .content .name) p a′ in
           let none-acked = opening-valid (w .text) (w .log) m epoch first last accepted .0 .none-acknowledged k in
           let joined : rowAt (s .table) k .joined ≡ p .content .joined = ap (λ (y : Row). y .joined) row-is in
-          let small : p .content .joined < 2 ^ 64 = well-formed-parts c (p .content) (come-record c (recordsOf h) (i .of-history .come) p stands .0) .joined-below in
+          let small : p .content .joined < 2 ^ 64 = record-parts w i p stands .joined-below in
           let left : leftOf p (v .phase) ≡ listed p = ap (leftOf p) e ∙ ap count
           (ap (λ (z : ℕ). difference (rowAt (s .table) k .joined) z) none-acked ∙ ap (λ (z : ℕ). difference z 0) joined ∙ difference-none (p .content .joined) small) in
           unfinished a′ (ap (λ (z : ℕ). z + leftOf p (v .phase)) (rw carried refl) ∙ ap (λ (z : ℕ). carriedFor p h + z) left ∙ b)

@@ -119,7 +119,8 @@ module _ {A : Type 0} (p : A → Bool) where
   count-set (y ∷ l) d zero x h = omega arith
   count-set (y ∷ l) d (suc i) x h = omega (arith, count-set l d i x (omega arith))
 
-  count-append : (a b : List A) → countWhere p (a ++ b) ≡ countWhere p a + countWhere p b
+  -- of two lists, one behind the other
+  pub count-append : (a b : List A) → countWhere p (a ++ b) ≡ countWhere p a + countWhere p b
   unfolding countWhere
   count-append [] b = omega arith
   count-append (x ∷ a) b = omega (arith, count-append a b)
@@ -228,6 +229,12 @@ module _ {A : Type 0} (p : A → Bool) where
   pub count-other : (x : A) (l : List A) → p x ≡ false → countWhere p (x ∷ l) ≡ countWhere p l
   unfolding countWhere
   count-other x l e = rw e (omega arith)
+
+-- two tests that agree
+pub count-same : {A : Type 0} (p q : A → Bool) → ((x : A) → p x ≡ q x) → (l : List A) → countWhere p l ≡ countWhere q l
+unfolding countWhere
+count-same p q e [] = refl
+count-same p q e (x ∷ l) = rw (e x, count-same p q e l)
 
 -- ---- sums
 

@@ -1,17 +1,15 @@
 -- A place is overdue exactly where the records of its name say that its transaction outlived its timeout, so the lowest such place is the same by both.
 use Prim.Native.Nat.{ℕ, _+_, _≤_, _<_}
 use mathlib.Core.Path.{_≡_, refl, sym, ap, _∙_}
-use mathlib.Core.Bool.{true, false, not, _&&_, and-false}
+use mathlib.Core.Bool.{true, false, _&&_, and-false}
 use mathlib.Core.List.{List, []}
 use mathlib.Core.Option.{some}
 use native.Mathlib.Omega.{arith}
 use lib.Dec.{leb, ltb}
 use lib.ListN.{length, getD}
-use borrow.Author.Tests.{eqb-true}
 use Rattle.numbers.proofs.Tests.{either, not-ltb, ltb-minus}
 use Rattle.catalogue.specs.declared.Catalogue.{Catalogue}
 use Rattle.search.specs.Search.{found}
-use Rattle.search.proofs.Found.{option-either}
 use Rattle.search.proofs.SameFirst.{nowhere-either, found-either, same-first}
 use Rattle.answers.specs.Limits.{places}
 use Rattle.row.specs.Row.{freeRow, free, isBegin, held, withAcknowledged}
@@ -20,12 +18,11 @@ use Rattle.row.proofs.Laws.{idle-unbegun}
 use Rattle.table.specs.Table.{rowAt}
 use Rattle.coordinator.specs.Tick.{overdue, overduePlace}
 use Rattle.coordinator.specs.declared.Coordinator.{Coordinator}
-use Rattle.writable_logs.proofs.Places.{place-named, places-are}
-use Rattle.runs.specs.History.{History, Logged, recordsOf, contents, isFlushed, latestOf, names}
+use Rattle.runs.specs.History.{History, Logged, recordsOf, isFlushed, latestOf, names}
 use Rattle.protocol.specs.HistoryInvariant.{HistoryInvariant}
 use Rattle.agreement.proofs.Invariant.{UpLog}
 use Rattle.agreement.proofs.FlushedFirst.{proper}
-use Rattle.agreement.proofs.LiveTable.{live-ready, live-row, starts-of, live-record-at}
+use Rattle.agreement.proofs.LiveTable.{live-ready, live-record-at, free-lacks, name-at, others-free}
 use Rattle.runs.specs.Timeouts.{isDue, duePlace}
 use Rattle.timeouts.proofs.Beginning.{unbegun, begun}
 
@@ -62,30 +59,21 @@ module _ (c : Catalogue) (log : List ℕ) (s : Coordinator) (h : History) (u : U
       let row = rowAt (s .table) k in
       other-due (s .flushed) clock row (idle-unbegun (row .status) (proper s (live-ready c log s h u t) .each k f))
 
-  -- a name that does not start has no record
-  free-records : (k : ℕ) → free (rowAt (s .table) k) ≡ true → isDue clock h (rowAt (s .table) k .name) ≡ false
-  free-records k f =
-      let name = rowAt (s .table) k .name in
-      option-either (latestOf name h) (λ e. rw e refl) (λ x e. absurd (starts-of c log s h u t name x e (eqb-true (getD name 0 0) 0 f)))
-
   place-due : (k : ℕ) → overdue (s .flushed) clock (rowAt (s .table) k) ≡ isDue clock h (rowAt (s .table) k .name)
   place-due k =
       let row = rowAt (s .table) k in
-      either (free row) (λ f. free-due k f ∙ sym (free-records k f))
+      either (free row) (λ f. free-due k f ∙ rw (free-lacks c log s h u t k f) refl)
       (λ f.
       let at = live-record-at c log s h u t k f in
       sym (same-due (s .flushed) clock row) ∙ ap (overdue (s .flushed) clock) (at .row) ∙ latest-due (row .name) (at .latest) (at .is))
 
   -- ---- the names in their order
 
-  pub name-at : (k : ℕ) → k < length (names h) → rowAt (s .table) k .name ≡ getD (names h) k []
-  name-at k b = ap (λ (row : Row). row .name) (live-row c log s h u t k) ∙ place-named c (contents (recordsOf h)) (t .come) k b
-
   named-due : (k : ℕ) → k < length (names h) → overdue (s .flushed) clock (rowAt (s .table) k) ≡ isDue clock h (getD (names h) k [])
-  named-due k b = place-due k ∙ ap (isDue clock h) (name-at k b)
+  named-due k b = place-due k ∙ ap (isDue clock h) (name-at c log s h u t k b)
 
   others-due : (k : ℕ) → length (names h) ≤ k → overdue (s .flushed) clock (rowAt (s .table) k) ≡ false
-  others-due k b = free-due k (ap free (live-row c log s h u t k) ∙ places-are c (contents (recordsOf h)) (t .come) .others k b)
+  others-due k b = free-due k (others-free c log s h u t k b)
 
   -- ---- the lowest place
 

@@ -40,15 +40,15 @@ use Rattle.coordinator.specs.declared.Coordinator.{Coordinator}
 use Rattle.coordinator.proofs.TickCases.{overdue-found, tick-aborted, tick-none}
 use Rattle.writable_logs.proofs.Written.{written-admits}
 use Rattle.runs.specs.History.{recordAppended, History, Logged, recordsOf, contents, isOf, latestOf, names}
-use Rattle.runs.specs.World.{Phase, up, World, catalogueOf, start, own, call, next, step, run, whileUp, coordinatorLent, historyAfter}
+use Rattle.runs.specs.World.{Phase, up, World, catalogueOf, start, own, call, next, step, whileUp, coordinatorLent, historyAfter}
 use Rattle.protocol.specs.HistoryInvariant.{HistoryInvariant}
 use Rattle.protocol.proofs.TableOfRecords.{come-record}
 use Rattle.agreement.proofs.Invariant.{UpLog, Invariant}
 use Rattle.agreement.proofs.FlushedFirst.{proper}
 use Rattle.agreement.proofs.Preserves.{log-of}
-use Rattle.agreement.proofs.LiveTable.{live-ready, live-record-at, RecordAt}
+use Rattle.agreement.proofs.LiveTable.{live-ready, live-record-at, RecordAt, name-at}
 use Rattle.runs.specs.Timeouts.{duePlace, dueRecord, abortOf, Appends, Ticks}
-use Rattle.timeouts.proofs.Due.{name-at, whole, due-nowhere, due-within, due-there}
+use Rattle.timeouts.proofs.Due.{whole, due-nowhere, due-within, due-there}
 
 -- ---- the record of an abort
 
@@ -115,7 +115,7 @@ module _ (c : Catalogue) (log : List ℕ) (s : Coordinator) (h : History) (u : U
     latest = known .latest
 
     latest-is : dueRecord clock h ≡ some latest
-    latest-is = ap (λ (name : List ℕ). latestOf name h) (sym (name-at c log s h u t clock place n)) ∙ known .is
+    latest-is = ap (λ (name : List ℕ). latestOf name h) (sym (name-at c log s h u t place n)) ∙ known .is
 
     -- "epoch at most 32766" where a transaction has begun
     epoch-most : row .epoch ≤ epochLast
