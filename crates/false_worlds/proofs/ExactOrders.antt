@@ -70,7 +70,7 @@ true-counts nextPrepare = on-the-way (trueCount nextPrepare) 2 0 refl refl refl 
 
 -- the number shown, and the number left
 pub false-displays : (x : FalseDisplay) → IsShown (falseDisplay x) → ⊥
-unfolding left ones acknowledgedOrders hasName namesOf endingBy recordsOf find countWhere members same
+unfolding left ones acknowledgedOrders hasName namesOf endingBy recordsOf flushedOf find countWhere members same
 false-displays showsAll = λ e. differ 2 1 refl refl e
 false-displays keepsOverCut = λ e. differ 1 2 refl refl e
 false-displays keepsOverPrepare = λ e. differ 1 2 refl refl e
@@ -80,7 +80,7 @@ false-displays hidesAppended = λ e. differ 0 2 refl refl e
 false-displays showsBegin = λ e. differ 2 0 refl refl e
 
 pub true-displays : (x : TrueDisplay) → IsShown (trueDisplay x)
-unfolding left ones acknowledgedOrders hasName namesOf endingBy recordsOf find countWhere members same
+unfolding left ones acknowledgedOrders hasName namesOf endingBy recordsOf flushedOf find countWhere members same
 true-displays ofBegin = refl
 true-displays ofAppended = refl
 true-displays ofFlushed = refl
