@@ -8,7 +8,7 @@ use Rattle.record.specs.declared.Status.the-variants.{Begin, PrepareCommit, Com
 use Rattle.row.specs.Row.{freeRow}
 use Rattle.row.specs.declared.Row.{Row}
 use Rattle.coordinator.specs.Left.{left}
-use Rattle.runs.specs.History.{recordAppended, logCut, logOpened, orderCarried, History, Logged}
+use Rattle.runs.specs.History.{recordAppended, logFlushed, logCut, logOpened, orderCarried, History, Logged}
 use Rattle.runs.specs.ExactOrders.{shownAt, Exactly}
 use Rattle.false_worlds.specs.Histories.{recordOf7, begun, commits, committing, prepare, order7, state, rowIn}
 
@@ -36,9 +36,9 @@ half = carried 0 committing
 abbrev both : History
 both = carried 1 half
 
--- its name begins anew and prepares again, which is event 9
+-- its name begins anew and prepares again, which is event 9 and is flushed
 abbrev again : History
-again = recordAppended commits 380 ∷ recordAppended (recordOf7 Begin 1000 0 3) 310 ∷ completed both
+again = logFlushed 380 ∷ recordAppended commits 380 ∷ recordAppended (recordOf7 Begin 1000 0 3) 310 ∷ completed both
 
 abbrev preparedAgain : Logged
 preparedAgain = record { number = 9; content = commits; end = 380 }
