@@ -31,6 +31,8 @@ pub mod Produces
 pub mod Delivers
 -- Ack, carried
 pub mod Acknowledges
+-- the row of a name's latest record, when a record is appended and when an Ack is noted
+pub mod LatestRows
 -- a cut, an opening, another slice
 pub mod Restarts
 -- the first opening

@@ -13,6 +13,7 @@ use Rattle.catalogue.specs.declared.Catalogue.{Catalogue}
 use Rattle.record.specs.Record.{wellFormed}
 use Rattle.answers.specs.Limits.{places}
 use Rattle.row.specs.Row.{recordOf, withAcknowledged, held}
+use Rattle.row.specs.declared.Row.{Row}
 use Rattle.table.specs.Table.{placeFor, placeOf, rowAt}
 use Rattle.table.proofs.Records.{come-place}
 use Rattle.table.proofs.Unacknowledged.{unacknowledged, plain-place-for}
@@ -20,7 +21,7 @@ use Rattle.coordinator.specs.Coordinator.{logEnd, rowFrame, Action, keep, advan
 use Rattle.coordinator.specs.declared.Coordinator.{Coordinator}
 use Rattle.coordinator.specs.Calls.{CoordinatorCall, callTyped, actionOf}
 use Rattle.writable_logs.proofs.Decisions.{Decided, byCall}
-use Rattle.writable_logs.proofs.Lawful.{Lawful, decided-lawful, Ready}
+use Rattle.writable_logs.proofs.Lawful.{Lawful, decided-lawful, Ready, ComesNext}
 use Rattle.runs.specs.History.{Event, recordAppended, logFlushed, History, recordsOf, contents, flushedOf, wordsIn, Logged, latestOf}
 use Rattle.runs.specs.World.{Leader, Phase, up, down, nothing, World, catalogueOf, leaderAt, withCarrying, historyAfter, coordinatorDoes, isAck, Carrying}
 use Rattle.runs.proofs.Epochs.{epoch-kept}
@@ -172,6 +173,12 @@ module _ (w : World) (i : Invariant w) where
     pub place-inside : (name : List ℕ) (x : Logged) → latestOf name h ≡ some x → placeOf (s .table) name < places
     place-inside name x e = ltb-true (placeOf (s .table) name) places (live-holds c (w .log) s h log-of (i .of-history) name x e)
 
+    -- a record that comes next has a place
+    pub append-inside : (place : ℕ) (row : Row) → ComesNext s place row → place < length (s .table .rows)
+    append-inside place row l =
+        let at : placeFor (unacknowledged (s .table)) (row .name) ≡ place = plain-place-for (s .table) (row .name) ∙ l .place-is in
+        omega (arith, come-place (unacknowledged (s .table)) (recordOf row) (l .comes), rows-of)
+
     leaders-after : (a : Action) → Lawful s a → MayAppend s h a → (x : ℕ) → LeaderAgrees c (historyAfter a s h) (s .epoch) x (leaderAt w x)
     leaders-after keep l k x = leaders-of x
     leaders-after (advance clock) l k x = leaders-of x
@@ -191,13 +198,8 @@ module _ (w : World) (i : Invariant w) where
     acks-after keep l k n = acks-of
     acks-after (advance clock) l k n = acks-rows c h s (after (advance clock) s) (λ j. refl) acks-of
     acks-after (append place row) l m n =
-        acks-appended c h (i .of-history) s acks-of place row inside (l .none-acknowledged)
+        acks-appended c h (i .of-history) s acks-of place row (append-inside place row l) (l .none-acknowledged)
         (subst (λ (y : Catalogue). wellFormed y (recordOf row) ≡ true) (log-of .written .catalogue-is) (l .formed)) (append-may c (w .log) s h log-of (i .of-history) place row l (m .flushed) (m .nothing-open))
-      where
-        inside : place < length (s .table .rows)
-        inside =
-            let at : placeFor (unacknowledged (s .table)) (row .name) ≡ place = plain-place-for (s .table) (row .name) ∙ l .place-is in
-            omega (arith, come-place (unacknowledged (s .table)) (recordOf row) (l .comes), rows-of)
     acks-after (acknowledgeAt place position) l k n = n
     acks-after (flushTo n) l k m =
         acks-rows c (logFlushed n ∷ h) s (after (flushTo n) s) (λ j. refl)

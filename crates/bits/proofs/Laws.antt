@@ -1,6 +1,6 @@
 -- Laws of a number as a set of positions, over all numbers and positions.
 use mathlib.Core.Path.{_≡_, refl, sym, ap, ap₂, subst, _∙_}
-use mathlib.Core.Bool.{Bool, true, false, cond, true≢false}
+use mathlib.Core.Bool.{Bool, true, false, cond, _||_, true≢false}
 use mathlib.Core.List.{[], _∷_, _++_, append-nil}
 use Prim.Native.Nat.{ℕ, zero, suc, _+_, _-_, _*_, _/_, _%_, _^_, _≤_, _<_, min, max}
 use native.Mathlib.Nat.{div-div-eq-div-mul, div-eq-of-lt, div-one, pow-succ', two-pow-succ, min-le-right, min-eq-left, max-eq-right, max-zero, min-zero, zero-mul, sub-zero, lt-of-le-of-lt, lt-of-lt-of-le, mod-lt, add-zero, one-mul, add-mul}
@@ -220,6 +220,14 @@ insert-same x p l = rw (insert-in x p l) (bit-or x (2 ^ p) p ∙ rw bit-same (ma
 
 pub insert-other : (x p q : ℕ) → (q ≡ p → ⊥) → bit (insert x p) q ≡ bit x q
 insert-other x p q n = insert-cases (λ (y : ℕ). bit y q ≡ bit x q) x p (bit-or x (2 ^ p) q ∙ rw (bit-other p q n) (max-zero (bit x q))) refl
+
+-- the test of a member then
+pub member-insert : (x p q : ℕ) → p < 64 → member (insert x p) q ≡ (eqb p q || member x q)
+member-insert x p q l = go (eqb p q) refl
+  where
+    go : (b : Bool) → eqb p q ≡ b → member (insert x p) q ≡ (b || member x q)
+    go true e = member-is (insert x p) q (subst (λ (j : ℕ). bit (insert x p) j ≡ 1) (eqb-true p q e) (insert-same x p l))
+    go false e = ap (λ (d : ℕ). eqb d 1) (insert-other x p q (λ z. eqb-false p q e (sym z)))
 
 pub insert-below : (k x p : ℕ) → x < 2 ^ k → p < k → insert x p < 2 ^ k
 insert-below k x p h l = insert-cases (λ (y : ℕ). y < 2 ^ k) x p (or-lt k x (2 ^ p) h (pow-lt l)) h

@@ -7,7 +7,7 @@ use mathlib.Core.List.{List, [], _++_}
 use lib.IntN.{ℤ}
 use Rattle.search.specs.Search.{Each}
 use Rattle.runs.specs.History.{Logged, pendingPrepares, listed}
-use Rattle.runs.specs.World.{Phase, World, FirstOpening, Accepted, start, Item, reopen, step, run}
+use Rattle.runs.specs.World.{Phase, World, start, reopen, step, run}
 use Rattle.runs.specs.ExactOrders.{acknowledgedOrders, notAcknowledged, ExactOrders}
 use Rattle.runs.proofs.Admitted.{step-own}
 use Rattle.runs.proofs.Cases.{step-cases, reopened-cases}
@@ -17,6 +17,7 @@ use Rattle.agreement.proofs.Invariant.{Invariant}
 use Rattle.agreement.proofs.PreparedRow.{record-parts}
 use Rattle.agreement.proofs.Steps.{step-preserves, always}
 use Rattle.exact_orders.proofs.Acknowledged.{RowsAcknowledged, Acknowledged}
+use Rattle.exact_orders.proofs.AcknowledgedKept.{always-acknowledged}
 use Rattle.exact_orders.proofs.NotAcknowledged.{none-acknowledged}
 use Rattle.exact_orders.proofs.Shows.{shows-place}
 use Rattle.exact_orders.proofs.Completes.{continued}
@@ -38,16 +39,16 @@ all-left w i e =
 
 -- ---- the theorem
 
-pub exact-orders : ((o : FirstOpening) → Accepted o → (items : List Item) → Acknowledged (run items (start o) .phase) (run items (start o) .history)) → ExactOrders
-exact-orders acknowledged =
+pub exact-orders : ExactOrders
+exact-orders =
     record {
-      shows = λ o accepted items s u place. shows-place (run items (start o)) (always o accepted items) (acknowledged o accepted items) s u place;
+      shows = λ o accepted items s u place. shows-place (run items (start o)) (always o accepted items) (always-acknowledged o accepted items) s u place;
       completes = λ o accepted items afterwards undisturbed.
-          continued (run items (start o)) (always o accepted items) (acknowledged o accepted items) afterwards undisturbed
-          (subst (λ (v : World). Acknowledged (v .phase) (v .history)) (run-append items afterwards (start o)) (acknowledged o accepted (items ++ afterwards)));
+          continued (run items (start o)) (always o accepted items) (always-acknowledged o accepted items) afterwards undisturbed
+          (subst (λ (v : World). Acknowledged (v .phase) (v .history)) (run-append items afterwards (start o)) (always-acknowledged o accepted (items ++ afterwards)));
       none-after-cut = λ o accepted items n before epoch first last u.
           let w = run items (start o) in
           let i = always o accepted items in
-          let empty : NoneAcknowledged w = subst (λ (y : Phase). RowsAcknowledged y (w .history)) u (acknowledged o accepted items .rows) in
+          let empty : NoneAcknowledged w = subst (λ (y : Phase). RowsAcknowledged y (w .history)) u (always-acknowledged o accepted items .rows) in
           all-left (step (reopen epoch first last) w) (step-preserves w i (reopen epoch first last) .holds (step-own (reopen epoch first last) w (i .own))) (reopened-none w empty epoch first last);
     }

@@ -1,6 +1,8 @@
 -- Laws of the crate exact_orders: the theorem of request 11 of document 02.
 -- the acknowledged sets are those of the history
 mod Acknowledged
+-- at every moment of every run
+mod AcknowledgedKept
 -- how many members of a set are not in another
 mod Counts
 -- what is not acknowledged is what is left

@@ -1,44 +1,33 @@
 -- The total of carried orders of a prepare: those carried and those left, and what keeps their sum.
 use Prim.Native.Nat.{ℕ, _+_, _<_}
-use mathlib.Core.Path.{_≡_, refl, sym, ap, subst, _∙_}
-use mathlib.Core.Logic.{_≢_}
+use mathlib.Core.Path.{_≡_, refl, sym, ap, _∙_}
 use mathlib.Core.Bool.{true, cond, true≢false}
-use mathlib.Core.List.{List, _∷_}
+use mathlib.Core.List.{_∷_}
 use mathlib.Core.Option.{Option, none, some}
 use lib.Dec.{eqb, ltb}
 use lib.ListN.{length}
 use borrow.Author.Tests.{eq-eqb, lt-ltb}
 use Rattle.numbers.proofs.Tests.{and-left, and-right, and-both}
 use Rattle.numbers.proofs.Bytes.{same-false}
-use Rattle.bits.specs.Bits.{count, insert}
+use Rattle.bits.specs.Bits.{count}
 use Rattle.catalogue.specs.declared.Catalogue.{Catalogue}
 use Rattle.record.specs.Record.{statusCode}
 use Rattle.search.specs.Search.{findLast, found, countWhere}
 use Rattle.search.proofs.Find.{find-miss, last-there, last-here}
-use Rattle.row.specs.Row.{isPrepare, outstanding, withEnd, withAcknowledged}
-use Rattle.row.specs.declared.Row.{Row}
-use Rattle.table.specs.Table.{rowAt, placeOf, apply, withRow, emptyTable}
-use Rattle.table.specs.declared.Table.{Table}
-use Rattle.table.proofs.Laws.{apply-same, apply-other}
-use Rattle.table.proofs.Unacknowledged.{plain-place, plain-with}
-use Rattle.log_reader.specs.Records.{allCome}
-use Rattle.coordinator.specs.Coordinator.{logEnd, rowFrame, appended, acknowledged}
-use Rattle.coordinator.specs.declared.Coordinator.{Coordinator}
-use Rattle.runs.specs.History.{Order, orderCarried, History, carriedIn, collect, Logged, recordsOf, contents, isOf, latestOf, nextOf, listed, isCompleted, carriedFor}
+use Rattle.row.specs.Row.{isPrepare, outstanding}
+use Rattle.runs.specs.History.{Order, orderCarried, History, carriedIn, collect, Logged, recordsOf, isOf, latestOf, nextOf, listed, isCompleted, carriedFor}
 use Rattle.runs.specs.World.{Phase, up, down}
 use Rattle.protocol.specs.RecordsOfName.{latestIn}
 use Rattle.protocol.specs.HistoryInvariant.{HistoryInvariant}
 use Rattle.protocol.proofs.Cuts.{is-of}
 use Rattle.protocol.proofs.AfterPrepare.{isAfter, latest-last}
-use Rattle.agreement.proofs.Invariant.{UpLog, placeIn}
-use Rattle.agreement.proofs.LiveTable.{live-place, live-latest}
-use Rattle.agreement.proofs.Tables.{place-kept}
+use Rattle.agreement.proofs.LatestRows.{rowOfName}
 
 -- ---- what is left
 
 -- how many orders a prepare still needs; after a restart nothing is acknowledged
 abbrev pub leftOf : Logged → Phase → ℕ
-leftOf p (up s) = count (outstanding (rowAt (s .table) (placeOf (s .table) (p .content .name))))
+leftOf p (up s) = count (outstanding (rowOfName s (p .content .name)))
 leftOf p (down n before) = listed p
 
 -- a prepare is completed and has had n orders carried, or it is its name's latest record and these and what is left are n
@@ -84,43 +73,6 @@ completed-now c p x h v r t e prepares b name code =
     let test : isAfter p x ≡ true = and-both (ltb (p .number) (x .number)) (isOf (p .content .name) x) (lt-ltb (p .number) (x .number) b) (is-of (p .content .name) x name) in
     let z : nextOf p v ≡ some x = ap (findLast (isAfter p)) r ∙ last-here (isAfter p) x (recordsOf h) test none-after in
     and-both (isPrepare (p .content .status)) _ prepares (rw z (eq-eqb (statusCode (x .content .status)) (statusCode (p .content .status) + 2) code))
-
--- ---- the rows of a prepare's place
-
--- under a record of another name
-pub left-appended : (c : Catalogue) (log log′ : List ℕ) (s : Coordinator) (h : History) (place : ℕ) (row : Row) → UpLog c log s h → HistoryInvariant c h
-    → (v : History) → UpLog c log′ (appended s place row) v → HistoryInvariant c v → (x : Logged) → recordsOf v ≡ x ∷ recordsOf h → place < length (s .table .rows)
-    → (p : Logged) → latestOf (p .content .name) h ≡ some p → (row .name ≡ p .content .name → ⊥) → (x .content .name ≡ p .content .name → ⊥)
-    → leftOf p (up (appended s place row)) ≡ leftOf p (up s)
-left-appended c log log′ s h place row u t v u′ t′ x r inside p e d d′ =
-    let name = p .content .name in
-    let e′ : latestOf name v ≡ some p = ap (latestIn name) r ∙ find-miss (isOf name) x (recordsOf h) (same-false (x .content .name) name d′) ∙ e in
-    let same-place : placeOf (appended s place row .table) name ≡ placeOf (s .table) name =
-    live-place c log′ (appended s place row) v u′ t′ name ∙ ap (λ (l : List Logged). placeIn c l name) r
-    ∙ place-kept c x (recordsOf h) (subst (λ (l : List Logged). allCome c emptyTable (contents l) ≡ true) r (t′ .come)) (t .ends) name p e ∙ sym (live-place c log s h u t name) in
-    let named : rowAt (appended s place row .table) (placeOf (s .table) name) .name ≡ name = ap (λ (k : ℕ). rowAt (appended s place row .table) k .name) (sym same-place)
-    ∙ ap (λ (y : Row). y .name) (live-latest c log′ (appended s place row) v u′ t′ name p e′) in
-    let not-here : placeOf (s .table) name ≡ place → ⊥ = λ z. d (sym (ap (λ (y : Row). y .name) here) ∙ ap (λ (k : ℕ). rowAt (appended s place row .table) k .name) (sym z) ∙ named) in
-    ap (λ (k : ℕ). count (outstanding (rowAt (appended s place row .table) k))) same-place ∙ ap (λ (y : Row). count (outstanding y)) (there (placeOf (s .table) name) not-here)
-  where
-    end : ℕ
-    end = logEnd s + length (rowFrame s row)
-
-    table : appended s place row .table ≡ apply (s .table) place (withEnd row end)
-    table = unfold appended in refl
-
-    here : rowAt (appended s place row .table) place ≡ withEnd row end
-    here = ap (λ (y : Table). rowAt y place) table ∙ apply-same (s .table) place (withEnd row end) inside
-
-    there : (k : ℕ) → k ≢ place → rowAt (appended s place row .table) k ≡ rowAt (s .table) k
-    there k n = ap (λ (y : Table). rowAt y k) table ∙ apply-other (s .table) place (withEnd row end) k n
-
--- after an acknowledgement every name is where it was
-pub place-acknowledged : (s : Coordinator) (place position : ℕ) (name : List ℕ) → placeOf (acknowledged s place position .table) name ≡ placeOf (s .table) name
-unfolding acknowledged
-place-acknowledged s place position name =
-    let t = withRow (s .table) place (withAcknowledged (rowAt (s .table) place) (insert (rowAt (s .table) place .acknowledged) position)) in
-    sym (plain-place t name) ∙ ap (λ (y : Table). placeOf y name) (plain-with (s .table) place (insert (rowAt (s .table) place .acknowledged) position)) ∙ plain-place (s .table) name
 
 -- ---- carried orders
 

@@ -18,19 +18,14 @@ use Rattle.catalogue.specs.Catalogue.{parse}
 use Rattle.catalogue.specs.declared.Catalogue.{Catalogue}
 use Rattle.record.specs.Record.{statusCode}
 use Rattle.search.specs.Search.{found}
-use Rattle.search.proofs.Found.{some-same}
 use Rattle.search.proofs.Members.{In, each-in}
-use Rattle.search.proofs.Find.{find-passes}
 use Rattle.answers.specs.Refusals.{Decision}
 use Rattle.answers.specs.declared.Answer.{Answer}
 use Rattle.row.specs.Row.{isPrepare, outstanding, recordOf}
 use Rattle.row.specs.Steps.{completed}
 use Rattle.row.specs.declared.Row.{Row}
 use Rattle.row.proofs.Laws.{complete-code}
-use Rattle.table.specs.Table.{rowAt, placeOf, placeFor}
-use Rattle.table.proofs.Laws.{with-other}
-use Rattle.table.proofs.Records.{come-place}
-use Rattle.table.proofs.Unacknowledged.{unacknowledged, plain-place-for}
+use Rattle.table.specs.Table.{rowAt, placeOf}
 use Rattle.coordinator.specs.Coordinator.{logEnd, rowFrame, Action, keep, advance, append, acknowledge as acknowledgeAt, flushTo, appended, acknowledged, after, logAfter}
 use Rattle.coordinator.specs.Ack.{lastOutstanding, ack}
 use Rattle.coordinator.specs.Flush.{flush}
@@ -38,7 +33,7 @@ use Rattle.coordinator.specs.Order.{order}
 use Rattle.coordinator.specs.Open.{opening}
 use Rattle.coordinator.specs.declared.Coordinator.{Coordinator}
 use Rattle.coordinator.specs.Calls.{flushCall, callTyped, actionOf}
-use Rattle.coordinator.proofs.AckCases.{ack-completed, ack-noted, acknowledged-row}
+use Rattle.coordinator.proofs.AckCases.{ack-completed, ack-noted}
 use Rattle.writable_logs.specs.Writer.{openingReply}
 use Rattle.writable_logs.proofs.Decisions.{Decided, byCall}
 use Rattle.writable_logs.proofs.Lawful.{Lawful, decided-lawful}
@@ -51,19 +46,18 @@ use Rattle.runs.specs.Demand3.{Undisturbed}
 use Rattle.runs.proofs.Unchanged.{flush-elsewhere}
 use Rattle.runs.proofs.Cases.{step-cases, while-up-cases, lent-cases, leader-cases, deliverable-cases, acknowledgeable-cases, read-cases, reopened-cases, answered-cases}
 use Rattle.protocol.specs.HistoryInvariant.{HistoryInvariant}
-use Rattle.protocol.proofs.Cuts.{numbered-same, numbered-below}
+use Rattle.protocol.proofs.Cuts.{numbered-below}
 use Rattle.protocol.proofs.Events.{collect-same, marker-records, entry-records, given-records, opened-records, carried-records, flush-records, appended-records, newRecord}
-use Rattle.protocol.proofs.Consequences.{for-latest}
-use Rattle.agreement.proofs.Invariant.{UpLog, LogSide, placeIn, UnderWay, Invariant}
+use Rattle.agreement.proofs.Invariant.{UpLog, LogSide, UnderWay, Invariant}
 use Rattle.agreement.proofs.FlushedFirst.{FlushedFirst, call-flushed-first}
 use Rattle.agreement.proofs.LiveTable.{live-latest}
-use Rattle.agreement.proofs.Tables.{place-name}
-use Rattle.agreement.proofs.Preserves.{log-of, acks-of, carrying-of, place-of, ready-of, row-of, rows-of}
+use Rattle.agreement.proofs.Preserves.{log-of, acks-of, carrying-of, ready-of, row-of, append-inside}
 use Rattle.agreement.proofs.PreparedRow.{record-parts}
-use Rattle.agreement.proofs.Delivers.{place-below, prepare-of}
+use Rattle.agreement.proofs.Delivers.{prepare-of}
 use Rattle.agreement.proofs.Acknowledges.{row-is, ack-passes, row-joins, joined-small, position-below}
+use Rattle.agreement.proofs.LatestRows.{row-appended, row-name, ordered-inside, same-prepare, ordered-row, row-noted, other-name, row-unnoted}
 use Rattle.agreement.proofs.Restarts.{opening-valid, elsewhere-cases, not-admitted}
-use Rattle.restart.proofs.TotalOrders.{leftOf, TotalOrders, finished, unfinished, total-same, total-other, total-over, completed-now, left-appended, place-acknowledged, carried-more}
+use Rattle.restart.proofs.TotalOrders.{leftOf, TotalOrders, finished, unfinished, total-same, total-other, total-over, completed-now, carried-more}
 
 module _ (p : Logged) (prepares : isPrepare (p .content .status) ≡ true) (n : ℕ) (w : World) (i : Invariant w) (stands : In p (recordsOf (w .history))) (t : TotalOrders p n (w .phase) (w .history)) where
   abbrev c : Catalogue
@@ -97,11 +91,6 @@ module _ (p : Logged) (prepares : isPrepare (p .content .status) ≡ true) (n : 
         carried : collect carriedIn (recordAppended (recordOf row) end ∷ h) ≡ collect carriedIn h
         carried = collect-same carriedIn (recordAppended (recordOf row) end) h refl
 
-        inside : place < length (s .table .rows)
-        inside =
-            let at : placeFor (unacknowledged (s .table)) (row .name) ≡ place = plain-place-for (s .table) (row .name) ∙ l .place-is in
-            omega (arith, come-place (unacknowledged (s .table)) (recordOf row) (l .comes), rows-of w i s u)
-
         go : TotalOrders p n (up s) h → TotalOrders p n (up (appended s place row)) (recordAppended (recordOf row) end ∷ h)
         go (finished e f) = total-over p new n (up (appended s place row)) h (recordAppended (recordOf row) end ∷ h) (appended-records h (recordOf row) end .records) carried e f
         go (unfinished e f) =
@@ -110,7 +99,9 @@ module _ (p : Logged) (prepares : isPrepare (p .content .status) ≡ true) (n : 
             ∙ ap (λ (r : Row). isPrepare (r .status)) (row-of w i s u (p .content .name) p e) ∙ prepares in
             not-both (k .unprepared) is in
             total-other p new n (up s) (up (appended s place row)) h (recordAppended (recordOf row) end ∷ h) (appended-records h (recordOf row) end .records) d carried
-            (left-appended c (w .log) _ s h place row (log-of w i s u) (i .of-history) (recordAppended (recordOf row) end ∷ h) x y new (appended-records h (recordOf row) end .records) inside p e d d) (unfinished e f)
+            (ap (λ (r : Row). count (outstanding r))
+            (row-appended c (w .log) _ s h place row (log-of w i s u) (i .of-history) (recordAppended (recordOf row) end ∷ h) x y new (appended-records h (recordOf row) end .records) (append-inside w i s u place row l) p e d d))
+            (unfinished e f)
     acted (acknowledgeAt place position) l k x y = absurd k
     acted (flushTo m) l k x y = total-same p n (up s) (up (after (flushTo m) s)) h (logFlushed m ∷ h) (flush-records h m) (collect-same carriedIn (logFlushed m) h refl) refl now
 
@@ -129,11 +120,8 @@ module _ (p : Logged) (prepares : isPrepare (p .content .status) ≡ true) (n : 
       abbrev v : History
       v = orderCarried o ∷ h
 
-      number-is : r .number ≡ o .for
-      number-is = eqb-true (r .number) (o .for) (find-passes (λ (y : Logged). eqb (y .number) (o .for)) (recordsOf h) r (prepare-of w i s u o way .found))
-
-      same-prepare : o .for ≡ p .number → r ≡ p
-      same-prepare e = numbered-same (length h) (recordsOf h) (i .of-history .numbered) r p (prepare-of w i s u o way .there) stands (number-is ∙ e)
+      is-p : o .for ≡ p .number → r ≡ p
+      is-p = same-prepare w i s u o way p stands
 
       records : recordsOf v ≡ recordsOf h
       records = carried-records h o .records
@@ -146,7 +134,7 @@ module _ (p : Logged) (prepares : isPrepare (p .content .status) ≡ true) (n : 
 
       not-over : isCompleted h p ≡ true → o .for ≡ p .number → ⊥
       not-over e q =
-          let z : nextOf p h ≡ none = subst (λ (y : Logged). nextOf y h ≡ none) (same-prepare q) (prepare-of w i s u o way .is-for .latest) in
+          let z : nextOf p h ≡ none = subst (λ (y : Logged). nextOf y h ≡ none) (is-p q) (prepare-of w i s u o way .is-for .latest) in
           let f : found (λ (y : Logged). eqb (statusCode (y .content .status)) (statusCode (p .content .status) + 2)) (nextOf p h) ≡ true = and-right (isPrepare (p .content .status)) _ e in
           true≢false (sym (rw z at f))
 
@@ -155,20 +143,8 @@ module _ (p : Logged) (prepares : isPrepare (p .content .status) ≡ true) (n : 
       counted d (finished e f) = finished (rw records e) (same-count d ∙ f)
       counted d (unfinished e f) = unfinished (rw records e) (ap (λ (m : ℕ). m + leftOf p (up s)) (same-count d) ∙ f)
 
-      other-name : (o .for ≡ p .number → ⊥) → latestOf (p .content .name) h ≡ some p → r .content .name ≡ p .content .name → ⊥
-      other-name d e q =
-          let z : latestOf (r .content .name) h ≡ some r = for-latest c h (i .of-history) o r (prepare-of w i s u o way .there) (prepare-of w i s u o way .is-for) in
-          d (sym number-is ∙ ap (λ (y : Logged). y .number) (some-same (sym z ∙ ap (λ (m : List ℕ). latestOf m h) q ∙ e)))
-
-      row-name : row .name ≡ r .content .name
-      row-name = ap (λ (y : Row). y .name) (row-is w i s u o way)
-
       own-left : o .for ≡ p .number → leftOf p (up s) ≡ count (outstanding row)
-      own-left e = ap (λ (k : ℕ). count (outstanding (rowAt (s .table) k))) (place-of w i s u (p .content .name) ∙ ap (λ (y : Logged). placeIn c (recordsOf h) (y .content .name)) (sym (same-prepare e))
-          ∙ prepare-of w i s u o way .place)
-
-      inside : o .place < length (s .table .rows)
-      inside = let b = place-below w i s u o way in omega (arith, rows-of w i s u)
+      own-left e = ap (λ (y : Row). count (outstanding y)) (ordered-row w i s u o way p stands e)
 
       -- the last one completes its prepare
       completes : lastOutstanding row ≡ true → Counts (coordinatorDoes (append (o .place) (completed row (s .clock))) s (withEvent w (orderCarried o)))
@@ -195,8 +171,8 @@ module _ (p : Logged) (prepares : isPrepare (p .content .status) ≡ true) (n : 
           go : TotalOrders p n (up s) h → Dec (o .for ≡ p .number) → TotalOrders p n (up (appended s (o .place) done)) (recordAppended (recordOf done) end ∷ v)
           go (finished e f) q = let d = not-over e in total-over p new n (up (appended s (o .place) done)) v (recordAppended (recordOf done) end ∷ v) to-v carried (rw records e) (same-count d ∙ f)
           go (unfinished e f) (yes q) =
-              finished (completed-now c p new h (recordAppended (recordOf done) end ∷ v) all (i .of-history) e prepares (let b = below in omega arith) (row-name ∙ ap (λ (y : Logged). y .content .name) (same-prepare q))
-              (complete-code (row .status) row-prepares ∙ ap (λ (m : ℕ). m + 2) (ap (λ (y : Row). statusCode (y .status)) (row-is w i s u o way) ∙ ap (λ (y : Logged). statusCode (y .content .status)) (same-prepare q))))
+              finished (completed-now c p new h (recordAppended (recordOf done) end ∷ v) all (i .of-history) e prepares (let b = below in omega arith) (row-name w i s u o way ∙ ap (λ (y : Logged). y .content .name) (is-p q))
+              (complete-code (row .status) row-prepares ∙ ap (λ (m : ℕ). m + 2) (ap (λ (y : Row). statusCode (y .status)) (row-is w i s u o way) ∙ ap (λ (y : Logged). statusCode (y .content .status)) (is-p q))))
               (let a : carriedFor p (recordAppended (recordOf done) end ∷ v) ≡ carriedFor p v = rw carried refl in let b = carried-here q in let d = own-left q in let m = eqb-true
               (count (outstanding row)) 1 last in omega arith)
             where
@@ -206,10 +182,11 @@ module _ (p : Logged) (prepares : isPrepare (p .content .status) ≡ true) (n : 
               row-prepares : isPrepare (row .status) ≡ true
               row-prepares = ap (λ (y : Row). isPrepare (y .status)) (row-is w i s u o way) ∙ prepare-of w i s u o way .is-for .prepare
           go (unfinished e f) (no d) =
-              let d′ = other-name d e in
-              let d″ : row .name ≡ p .content .name → ⊥ = λ z. d′ (sym row-name ∙ z) in
-              total-other p new n (up s) (up (appended s (o .place) done)) v (recordAppended (recordOf done) end ∷ v) to-v d″ carried
-              (left-appended c (w .log) _ s h (o .place) done (log-of w i s u) (i .of-history) (recordAppended (recordOf done) end ∷ v) (j .log-side) (j .of-history) new all inside p e d″ d″) (counted d (unfinished e f))
+              let d′ = other-name w i s u o way p d e in
+              total-other p new n (up s) (up (appended s (o .place) done)) v (recordAppended (recordOf done) end ∷ v) to-v d′ carried
+              (ap (λ (y : Row). count (outstanding y))
+              (row-appended c (w .log) _ s h (o .place) done (log-of w i s u) (i .of-history) (recordAppended (recordOf done) end ∷ v) (j .log-side) (j .of-history) new all (ordered-inside w i s u o way) p e d′ d′))
+              (counted d (unfinished e f))
 
       -- another one is noted
       notes : lastOutstanding row ≡ false → Counts (coordinatorDoes (acknowledgeAt (o .place) (o .position)) s (withEvent w (orderCarried o)))
@@ -221,23 +198,13 @@ module _ (p : Logged) (prepares : isPrepare (p .content .status) ≡ true) (n : 
           go : TotalOrders p n (up s) h → Dec (o .for ≡ p .number) → TotalOrders p n (up noted) v
           go (finished e f) q = finished (rw records e) (same-count (not-over e) ∙ f)
           go (unfinished e f) (yes q) =
-              let at : placeOf (noted .table) (p .content .name) ≡ o .place = place-acknowledged s (o .place) (o .position) (p .content .name) ∙ place-of w i s u (p .content .name)
-              ∙ ap (λ (y : Logged). placeIn c (recordsOf h) (y .content .name)) (sym (same-prepare q)) ∙ prepare-of w i s u o way .place in
-              let left : leftOf p (up noted) ≡ count (difference (row .joined) (insert (row .acknowledged) (o .position))) = ap (λ (k : ℕ). count (outstanding (rowAt (noted .table) k))) at
-              ∙ ap (λ (y : Row). count (outstanding y)) (acknowledged-row s (o .place) (o .position) inside) in
+              let left : leftOf p (up noted) ≡ count (difference (row .joined) (insert (row .acknowledged) (o .position))) = ap (λ (y : Row). count (outstanding y)) (row-noted w i s u o way p stands q) in
               let one = count-left (row .joined) (row .acknowledged) (o .position) (joined-small w i s u o way) (acks-of w i s u .small (o .place)) (position-below w i s u o way)
               (member-true (row .joined) (o .position) (row-joins w i s u o way)) (member-false (row .acknowledged) (o .position) (way .waits)) in
               unfinished (rw records e) (let a = carried-here q in let b = own-left q in omega arith)
           go (unfinished e f) (no d) =
-              let other : placeOf (s .table) (p .content .name) ≡ o .place → ⊥ = λ z. other-name d e
-              (sym (place-name c (recordsOf h) (i .of-history .come) (i .of-history .ends) (p .content .name) (r .content .name) p r e
-              (for-latest c h (i .of-history) o r (prepare-of w i s u o way .there) (prepare-of w i s u o way .is-for)) (sym (place-of w i s u (p .content .name)) ∙ z ∙ sym (prepare-of w i s u o way .place)))) in
-              let left : leftOf p (up noted) ≡ leftOf p (up s) = ap (λ (k : ℕ). count (outstanding (rowAt (noted .table) k))) (place-acknowledged s (o .place) (o .position) (p .content .name))
-              ∙ ap (λ (y : Row). count (outstanding y)) (row-there (placeOf (s .table) (p .content .name)) other) in
+              let left : leftOf p (up noted) ≡ leftOf p (up s) = ap (λ (y : Row). count (outstanding y)) (row-unnoted w i s u o way p d e) in
               unfinished (rw records e) (ap (λ (m : ℕ). carriedFor p v + m) left ∙ ap (λ (m : ℕ). m + leftOf p (up s)) (same-count d) ∙ f)
-            where
-              row-there : (k : ℕ) → (k ≡ o .place → ⊥) → rowAt (noted .table) k ≡ rowAt (s .table) k
-              row-there k m = unfold acknowledged in with-other (s .table) (o .place) _ k m
 
       acked : Counts (coordinatorDoes (ack s (length (w .log)) (o .place) (o .pid) (o .epoch) (o .position) .action) s (withEvent w (orderCarried o)))
       acked =

@@ -1,10 +1,10 @@
 -- Laws of the first and the last element that pass a test, and of all that pass.
 use mathlib.Core.Path.{_≡_, refl, sym, ap, subst, _∙_}
-use mathlib.Core.Bool.{Bool, true, false, cond}
+use mathlib.Core.Bool.{Bool, true, false, cond, _||_}
 use mathlib.Core.List.{List, [], _∷_, _++_, map, reverseAux}
 use mathlib.Core.Option.{Option, none, some}
 use Rattle.numbers.proofs.Tests.{either, by-cases, not-both}
-use Rattle.search.specs.Search.{find, findLast, filter, Each}
+use Rattle.search.specs.Search.{find, findLast, filter, isFound, Each}
 use Rattle.search.proofs.Found.{none-some, some-same}
 use Rattle.search.proofs.Members.{In, here, there, in-nil, in-cons}
 
@@ -42,6 +42,14 @@ module _ {A : Type 0} (p : A → Bool) where
   find-some (y ∷ l) r i t =
       either (p y) (λ e. (y, find-hit y l e))
       (λ e. in-cons i (λ q. not-both e (subst (λ (z : A). p z ≡ true) (sym q) t)) (λ j. let (x, f) = find-some l r j t in (x, find-miss y l e ∙ f)))
+
+  pub find-fails : (l : List A) → Each (λ (x : A). p x ≡ false) l → find p l ≡ none
+  find-fails [] h = unfold find in refl
+  find-fails (x ∷ l) (h, hs) = find-miss x l h ∙ find-fails l hs
+
+  -- whether one is found
+  pub found-more : (x : A) (l : List A) → isFound (find p (x ∷ l)) ≡ (p x || isFound (find p l))
+  found-more x l = either (p x) (λ e. rw (find-hit x l e, e) refl) (λ e. rw (find-miss x l e, e) refl)
 
   pub last-none : (x : A) (l : List A) → p x ≡ false → findLast p l ≡ none → findLast p (x ∷ l) ≡ none
   unfolding findLast
