@@ -1,5 +1,5 @@
 #!/usr/bin/env python3
-"""Command lines as document 01 (Listing) and docs/DECISIONS.md, The listing have them, and `left`, and what crates/command_lines writes of them.
+"""Command lines as document 01 (Listing) and docs/DECISIONS.md, The listing have them, and what crates/command_lines writes of them.
 
 Shares no code with the proved crates: fields by bytes.split-like rules of its own, numbers by Python's integers.
 `commands.py < TEXT` writes what the program should write.
