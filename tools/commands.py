@@ -19,6 +19,7 @@ COMMANDS = {
     b"carry": ("u64",),
     b"read": ("u64",),
     b"cut": ("u64",),
+    b"left": ("u64",),
 }
 NUMBER = re.compile(rb"-?[0-9]+\Z")
 
@@ -67,9 +68,7 @@ def described(line):
     word, v = command
     if word == b"flush":
         return shown(word, b"22", 1, 2**64 - 1, [])
-    if word == b"tick":
-        return shown(word, b"0", 0, 0, [v[0], v[0]])
-    if word in (b"carry", b"read", b"cut"):
+    if word in (b"tick", b"carry", b"read", b"cut", b"left"):
         return shown(word, b"0", 0, 0, [v[0], v[0]])
     place, length = v[0]
     if word == b"init":

@@ -1,5 +1,5 @@
 #!/usr/bin/env python3
-"""Says what rigrun should answer to a script, from document 01 and docs/DECISIONS.md, The listing, and not from the proved code.
+"""Says what rigrun should answer to a script, from document 01, docs/DECISIONS.md, The listing, and document 02, 11, and not from the proved code.
 
     tools/rigrun.py < SCRIPT
 
@@ -20,7 +20,7 @@ LAST_COORDINATOR = 2**31 - 1
 
 # the fields behind each word: the name, or a number
 FIELDS = {b"init": ("bytes", I32, I64), b"add": ("bytes", I64, I16, U64, I64), b"end": ("bytes", I64, I16, U64, I64), b"tick": (I64,),
-          b"flush": (), b"put": ("bytes", I64, I16, U64, I32, U64), b"carry": (U64,), b"read": (U64,), b"cut": (U64,)}
+          b"flush": (), b"put": ("bytes", I64, I16, U64, I32, U64), b"carry": (U64,), b"read": (U64,), b"cut": (U64,), b"left": (U64,)}
 NO_RESULTS = {b"init", b"tick", b"carry", b"read"}  # those that write `-` for none
 
 
@@ -78,6 +78,9 @@ class Session:
         refuse(7, left > self.coordinator.end or self.coordinator.epoch == LAST_COORDINATOR)
         self.coordinator = opening(CATALOGUE, self.log, left, self.coordinator.epoch + 1, FIRST, LAST)
         return []
+
+    def left(self, place):
+        return self.coordinator.left(place)
 
     def answer(self, line):
         """The output line of a command line, both without their LF."""

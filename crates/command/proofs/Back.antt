@@ -18,9 +18,9 @@ use Rattle.search.specs.Search.{EachAt}
 use Rattle.search.proofs.Laws.{first-found}
 use Rattle.fields.specs.Fields.{count, partAt, field}
 use Rattle.command.specs.Words.{words, unknown, rowOf, wordAt}
-use Rattle.command.specs.Command.{given, ofFields, int16, int32, int64, uint64, initOf, addOf, endOf, tickOf, flushOf, putOf, carryOf, readOf, cutOf, commandsOf, commandAt, commandOf, rowOfCommand}
+use Rattle.command.specs.Command.{given, ofFields, int16, int32, int64, uint64, initOf, addOf, endOf, tickOf, flushOf, putOf, carryOf, readOf, cutOf, leftOf, commandsOf, commandAt, commandOf, rowOfCommand}
 use Rattle.command.specs.declared.Command.{Command}
-use Rattle.command.specs.declared.Command.the-variants.{Init, Add, End, Tick, Flush, Put, Carry, Read, Cut, Unknown}
+use Rattle.command.specs.declared.Command.the-variants.{Init, Add, End, Tick, Flush, Put, Carry, Read, Cut, Left, Unknown}
 use Rattle.command.proofs.Rows.{each-place}
 
 -- a command of this row, or none
@@ -74,9 +74,13 @@ cut-row : (line : List ℕ) → OfRow 8 (cutOf line)
 unfolding cutOf
 cut-row line = fields-row 8 2 line (uint64 line 1 (λ kept. Cut kept)) (given-row 8 (unsigned (field line 1)) (λ (kept : ℤ). Cut (toNat kept)) (λ kept d. refl))
 
+left-row : (line : List ℕ) → OfRow 9 (leftOf line)
+unfolding leftOf
+left-row line = fields-row 9 2 line (uint64 line 1 (λ place. Left place)) (given-row 9 (unsigned (field line 1)) (λ (place : ℤ). Left (toNat place)) (λ place d. refl))
+
 every-row : (line : List ℕ) → EachAt OfRow 0 (commandsOf line)
 every-row line =
-    (init-row line, (add-row line, (end-row line, (tick-row line, (flush-row line, (put-row line, (carry-row line, (read-row line, (cut-row line, tt)))))))))
+    (init-row line, (add-row line, (end-row line, (tick-row line, (flush-row line, (put-row line, (carry-row line, (read-row line, (cut-row line, (left-row line, tt))))))))))
 
 row-back : (row : ℕ) (line : List ℕ) → (commandAt row line ≡ Unknown → ⊥) → (row < length words) × (rowOfCommand (commandAt row line) ≡ row)
 unfolding commandAt

@@ -80,6 +80,7 @@ fn print_nameless(row: usize, c: Command) {
         Command::Carry { up } => print_one(row, up),
         Command::Read { position } => print_one(row, position),
         Command::Cut { kept } => print_one(row, kept),
+        Command::Left { place } => print_one(row, place),
         _ => print_other(row, Reply::Unknown),
     }
 }

@@ -8,7 +8,7 @@ use Rattle.numbers.specs.Ascii.{ascii}
 use Rattle.fields.specs.Fields.{part}
 use Rattle.command.specs.Command.{commandOf, rowOfCommand}
 use Rattle.command.specs.declared.Command.{Command}
-use Rattle.command.specs.declared.Command.the-variants.{Init, Add, End, Tick, Flush, Put, Carry, Read, Cut, Unknown}
+use Rattle.command.specs.declared.Command.the-variants.{Init, Add, End, Tick, Flush, Put, Carry, Read, Cut, Left, Unknown}
 use Rattle.listing.specs.Listing.{replyLine}
 use Rattle.listing.specs.declared.Reply.{Reply}
 use Rattle.listing.specs.declared.Reply.the-variants.{Unknown as Unanswered, Answered}
@@ -53,6 +53,7 @@ examples =
     example (ascii "read 8") (Read 8) (accepted (Payloads 0)) 268 215 (502 ∷ []) (ascii "read\t0\t268\t215\t-\n") ∷
     example (ascii "tick -1") (Tick (negsuc 0)) (accepted (One (pos 0))) 268 215 ([]) (ascii "tick\t0\t268\t215\t0\n") ∷
     example (ascii "add  -0 -32768 007 0") (Add (part 4 0) (pos 0) (negsuc 32767) 7 (pos 0)) (refused 1) 268 215 ([]) (ascii "add\t1\t268\t215\n") ∷
+    example (ascii "left 0") (Left 0) (accepted (One (pos 2))) 215 134 ([]) (ascii "left\t0\t215\t134\t2\n") ∷
     example (ascii "add r 1 32768 1 1") Unknown Unanswered 268 215 ([]) (ascii "?\t-\t268\t215\n") ∷
     example (ascii "cut -1") Unknown Unanswered 268 215 ([]) (ascii "?\t-\t268\t215\n") ∷
     example (ascii "flush ") Unknown Unanswered 268 215 ([]) (ascii "?\t-\t268\t215\n") ∷

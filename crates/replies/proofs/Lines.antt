@@ -24,7 +24,7 @@ use Rattle.listing.specs.declared.Rendered.the-variants.{Next, NoRoom}
 use Rattle.session.specs.Replies.{valuesOf, replyOf}
 use Rattle.session.specs.declared.Response.{Response}
 use Rattle.session.specs.declared.Results.{Results}
-use Rattle.session.specs.declared.Results.the-variants.{Nothing, Producer, Place, Offset, Carried, Payloads}
+use Rattle.session.specs.declared.Results.the-variants.{Nothing, Producer, Place, Offset, Carried, Payloads, Left}
 use Rattle.replies.specs.Shown.{isCommand, showsNone, resultsShown, resultsOf, fieldsShown, lineShown}
 use Rattle.replies.specs.Reply.{roomFor, placeBehind}
 use Rattle.replies.specs.Rendering.{ownNumbers, isOwn, numbersListed, noneRendered, resultsRendered, answerRendered, replyRendered}
@@ -56,6 +56,7 @@ results-rendered dash (Place place) payloads = refl
 results-rendered dash (Offset offset) payloads = refl
 results-rendered dash (Carried place position verdict) payloads = refl
 results-rendered dash (Payloads count) payloads = payloads-rendered dash count payloads
+results-rendered dash (Left count) payloads = refl
 
 -- ---- the line
 
@@ -87,6 +88,7 @@ own-length (Place place) = refl
 own-length (Offset offset) = refl
 own-length (Carried place position verdict) = refl
 own-length (Payloads count) = refl
+own-length (Left count) = refl
 
 -- which numbers are listed
 module _ (results : Results) (payloads : List ℕ) where

@@ -10,10 +10,10 @@ use Rattle.listing.specs.declared.Reply.{Reply}
 use Rattle.listing.specs.declared.Reply.the-variants.{Unknown, Answered}
 use Rattle.session.specs.declared.Response.{Response}
 use Rattle.session.specs.declared.Results.{Results}
-use Rattle.session.specs.declared.Results.the-variants.{Nothing, Producer, Place, Offset, Carried, Payloads}
+use Rattle.session.specs.declared.Results.the-variants.{Nothing, Producer, Place, Offset, Carried, Payloads, Left}
 use Rattle.replies.specs.Shown.{isCommand, showsNone}
 
--- a place, an offset and what was carried are listed as numbers of their own, the payloads of a read as those that were lent
+-- a place, an offset, what was carried and what is left are listed as numbers of their own, the payloads of a read as those that were lent
 abbrev pub isOwn : Results → Bool
 isOwn Nothing = false
 isOwn (Producer pid epoch) = false
@@ -21,6 +21,7 @@ isOwn (Place place) = true
 isOwn (Offset offset) = true
 isOwn (Carried place position verdict) = true
 isOwn (Payloads count) = false
+isOwn (Left count) = true
 
 abbrev pub ownNumbers : Results → List ℕ
 ownNumbers Nothing = 0 ∷ 0 ∷ 0 ∷ []
@@ -29,6 +30,7 @@ ownNumbers (Place place) = place ∷ 0 ∷ 0 ∷ []
 ownNumbers (Offset offset) = offset ∷ 0 ∷ 0 ∷ []
 ownNumbers (Carried place position verdict) = place ∷ position ∷ verdict ∷ []
 ownNumbers (Payloads count) = 0 ∷ 0 ∷ 0 ∷ []
+ownNumbers (Left count) = count ∷ 0 ∷ 0 ∷ []
 
 -- the numbers that are listed
 abbrev pub numbersListed : Results → List ℕ → List ℕ
@@ -45,6 +47,7 @@ resultsRendered dash (Place place) lent = Listed 1
 resultsRendered dash (Offset offset) lent = Listed 1
 resultsRendered dash (Carried place position verdict) lent = Listed 3
 resultsRendered dash (Payloads count) lent = cond (eqb count 0) (noneRendered dash) (cond (eqb lent 0) (noneRendered dash) (Listed count))
+resultsRendered dash (Left count) lent = Listed 1
 
 -- a refusal has no results
 abbrev pub answerRendered : Bool → Response → ℕ → Rendered

@@ -9,7 +9,7 @@ use Rattle.text.specs.Lines.{line}
 use Rattle.answers.specs.Answers.{Reply}
 use Rattle.coordinator.specs.Coordinator.{logEnd}
 use Rattle.command.specs.declared.Command.{Command}
-use Rattle.command.specs.declared.Command.the-variants.{Init, Add, End, Tick, Flush, Put, Carry, Read, Cut, Unknown}
+use Rattle.command.specs.declared.Command.the-variants.{Init, Add, End, Tick, Flush, Put, Carry, Read, Cut, Left, Unknown}
 use Rattle.command.specs.Limits.{commands}
 use Rattle.command.specs.Command.{rowOfCommand}
 use Rattle.command.specs.Words.{wordAt}
@@ -31,6 +31,7 @@ showsNone (Put name pid epoch position sequence payload) = false
 showsNone (Carry up) = true
 showsNone (Read position) = true
 showsNone (Cut kept) = false
+showsNone (Left place) = false
 showsNone Unknown = false
 
 -- the results of an accepted command; `dash` says whether `-` stands where there is none

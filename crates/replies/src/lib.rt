@@ -68,6 +68,7 @@ fn shows_none(command: Command) -> bool
         Command::Carry { up: _ } => true,
         Command::Read { position: _ } => true,
         Command::Cut { kept: _ } => false,
+        Command::Left { place: _ } => false,
         Command::Unknown => false,
     }
 }
@@ -87,6 +88,7 @@ fn is_own(results: session::Results) -> bool
             verdict: _,
         } => true,
         session::Results::Payloads(_) => false,
+        session::Results::Left(_) => true,
     }
 }
 
@@ -105,6 +107,7 @@ fn own_numbers(results: session::Results) -> [u64; 3]
             verdict,
         } => [place as u64, position as u64, verdict],
         session::Results::Payloads(_) => [0, 0, 0],
+        session::Results::Left(count) => [count as u64, 0, 0],
     }
 }
 
@@ -148,6 +151,7 @@ fn results_rendered(dash: bool, results: session::Results, lent: usize) -> listi
             verdict: _,
         } => listing::Results::Payloads(3),
         session::Results::Payloads(count) => payloads_rendered(dash, count, lent),
+        session::Results::Left(_) => listing::Results::Payloads(1),
     }
 }
 

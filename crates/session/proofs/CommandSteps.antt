@@ -24,7 +24,7 @@ use Rattle.numbers.proofs.Tests.{by-cases}
 use Rattle.answers.specs.declared.Answer.{Answer}
 use Rattle.server.specs.Lines.{catalogueText}
 use Rattle.command.specs.declared.Command.{Command}
-use Rattle.command.specs.declared.Command.the-variants.{Init, Add, End, Tick, Flush, Put, Carry, Read, Cut, Unknown}
+use Rattle.command.specs.declared.Command.the-variants.{Init, Add, End, Tick, Flush, Put, Carry, Read, Cut, Left, Unknown}
 use denote.Enum.Declared.{tagOf}
 use types.Run.{OneOf, miss}
 use Rattle.command.proofs.Command.{the-type}
@@ -161,7 +161,7 @@ pub logged-as : {a : Command} (b : Command) (line : List ℕ) (m : Memory) (r : 
 logged-as b line m r e p = rw e p
 
 -- it is one by its tag, and then it does what it is said to do
-pub on-log-as : (command : Command) (line : List ℕ) (m : Memory) (r : Performed) {log words payloads : List ℕ} → OneOf (0 ∷ 1 ∷ 2 ∷ 3 ∷ 4 ∷ 8 ∷ 9 ∷ []) (tagOf the-type command)
+pub on-log-as : (command : Command) (line : List ℕ) (m : Memory) (r : Performed) {log words payloads : List ℕ} → OneOf (0 ∷ 1 ∷ 2 ∷ 3 ∷ 4 ∷ 8 ∷ 10 ∷ []) (tagOf the-type command)
     → Performs (performedOnLog command line m) r log words payloads
     → Performs (performed command line m) r log words payloads
 unfolding performed
@@ -170,25 +170,27 @@ on-log-as (Add name pid epoch set time) line m r h p = p
 on-log-as (End name pid epoch verdict time) line m r h p = p
 on-log-as (Tick time) line m r h p = p
 on-log-as Flush line m r h p = p
-on-log-as (Put name pid epoch position sequence payload) line m r h p = absurd (miss (0 ∷ 1 ∷ 2 ∷ 3 ∷ 4 ∷ 8 ∷ 9 ∷ []) 5 tt h)
-on-log-as (Carry up) line m r h p = absurd (miss (0 ∷ 1 ∷ 2 ∷ 3 ∷ 4 ∷ 8 ∷ 9 ∷ []) 6 tt h)
-on-log-as (Read position) line m r h p = absurd (miss (0 ∷ 1 ∷ 2 ∷ 3 ∷ 4 ∷ 8 ∷ 9 ∷ []) 7 tt h)
+on-log-as (Put name pid epoch position sequence payload) line m r h p = absurd (miss (0 ∷ 1 ∷ 2 ∷ 3 ∷ 4 ∷ 8 ∷ 10 ∷ []) 5 tt h)
+on-log-as (Carry up) line m r h p = absurd (miss (0 ∷ 1 ∷ 2 ∷ 3 ∷ 4 ∷ 8 ∷ 10 ∷ []) 6 tt h)
+on-log-as (Read position) line m r h p = absurd (miss (0 ∷ 1 ∷ 2 ∷ 3 ∷ 4 ∷ 8 ∷ 10 ∷ []) 7 tt h)
 on-log-as (Cut kept) line m r h p = p
+on-log-as (Left place) line m r h p = absurd (miss (0 ∷ 1 ∷ 2 ∷ 3 ∷ 4 ∷ 8 ∷ 10 ∷ []) 9 tt h)
 on-log-as Unknown line m r h p = p
 
 -- for any other nothing is done
-pub nothing-on-log : (command : Command) (line : List ℕ) (m : Memory) (r : Performed) {log words payloads : List ℕ} → OneOf (5 ∷ 6 ∷ 7 ∷ 9 ∷ []) (tagOf the-type command)
+pub nothing-on-log : (command : Command) (line : List ℕ) (m : Memory) (r : Performed) {log words payloads : List ℕ} → OneOf (5 ∷ 6 ∷ 7 ∷ 9 ∷ 10 ∷ []) (tagOf the-type command)
     → Performs (stays (accepted []) m) r log words payloads
     → Performs (performedOnLog command line m) r log words payloads
-nothing-on-log (Init name timeout time) line m r h p = absurd (miss (5 ∷ 6 ∷ 7 ∷ 9 ∷ []) 0 tt h)
-nothing-on-log (Add name pid epoch set time) line m r h p = absurd (miss (5 ∷ 6 ∷ 7 ∷ 9 ∷ []) 1 tt h)
-nothing-on-log (End name pid epoch verdict time) line m r h p = absurd (miss (5 ∷ 6 ∷ 7 ∷ 9 ∷ []) 2 tt h)
-nothing-on-log (Tick time) line m r h p = absurd (miss (5 ∷ 6 ∷ 7 ∷ 9 ∷ []) 3 tt h)
-nothing-on-log Flush line m r h p = absurd (miss (5 ∷ 6 ∷ 7 ∷ 9 ∷ []) 4 tt h)
+nothing-on-log (Init name timeout time) line m r h p = absurd (miss (5 ∷ 6 ∷ 7 ∷ 9 ∷ 10 ∷ []) 0 tt h)
+nothing-on-log (Add name pid epoch set time) line m r h p = absurd (miss (5 ∷ 6 ∷ 7 ∷ 9 ∷ 10 ∷ []) 1 tt h)
+nothing-on-log (End name pid epoch verdict time) line m r h p = absurd (miss (5 ∷ 6 ∷ 7 ∷ 9 ∷ 10 ∷ []) 2 tt h)
+nothing-on-log (Tick time) line m r h p = absurd (miss (5 ∷ 6 ∷ 7 ∷ 9 ∷ 10 ∷ []) 3 tt h)
+nothing-on-log Flush line m r h p = absurd (miss (5 ∷ 6 ∷ 7 ∷ 9 ∷ 10 ∷ []) 4 tt h)
 nothing-on-log (Put name pid epoch position sequence payload) line m r h p = p
 nothing-on-log (Carry up) line m r h p = p
 nothing-on-log (Read position) line m r h p = p
-nothing-on-log (Cut kept) line m r h p = absurd (miss (5 ∷ 6 ∷ 7 ∷ 9 ∷ []) 8 tt h)
+nothing-on-log (Cut kept) line m r h p = absurd (miss (5 ∷ 6 ∷ 7 ∷ 9 ∷ 10 ∷ []) 8 tt h)
+nothing-on-log (Left place) line m r h p = p
 nothing-on-log Unknown line m r h p = p
 
 -- the signed numbers of a command are passed on by their bits

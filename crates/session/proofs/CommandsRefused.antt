@@ -40,7 +40,7 @@ use Rattle.server.specs.Demand1.{refusalsOf}
 use Rattle.server.specs.Lines.{catalogueText}
 use Rattle.server.proofs.Demand1.{demand-1}
 use Rattle.command.specs.declared.Command.{Command}
-use Rattle.command.specs.declared.Command.the-variants.{Init, Add, End, Tick, Flush, Put, Carry, Read, Cut, Unknown}
+use Rattle.command.specs.declared.Command.the-variants.{Init, Add, End, Tick, Flush, Put, Carry, Read, Cut, Left, Unknown}
 use Rattle.session.specs.Limits.{firstPid, lastPid, firstEpoch}
 use Rattle.session.specs.Memory.{Memory, indexOf, serverAt, withServer}
 use Rattle.fields.specs.Fields.{bytesOf}
@@ -248,6 +248,7 @@ numbered (Put name pid epoch position sequence payload) line m = called-numbered
 numbered (Carry up) line m = carry-numbered (order (m .session .coordinator) up) m
 numbered (Read position) line m = read-numbered position m
 numbered (Cut kept) line m = cut-numbered kept m
+numbered (Left place) line m = unfold among in refl
 numbered Unknown line m = unfold among in refl
 
 unchanged : (command : Command) (line : List ℕ) (m : Memory) → (performed command line m .reply .number ≡ 0 → ⊥) → performed command line m .memory ≡ keptBy command m
@@ -262,6 +263,7 @@ unchanged (Put name pid epoch position sequence payload) line m h =
 unchanged (Carry up) line m h = carry-unchanged (order (m .session .coordinator) up) m h
 unchanged (Read position) line m h = read-unchanged position m h
 unchanged (Cut kept) line m h = cut-unchanged kept m h
+unchanged (Left place) line m h = refl
 unchanged Unknown line m h = refl
 
 no-results : (command : Command) (line : List ℕ) (m : Memory) → (performed command line m .reply .number ≡ 0 → ⊥) → performed command line m .reply .results ≡ []
@@ -277,6 +279,7 @@ no-results (Put name pid epoch position sequence payload) line m h =
 no-results (Carry up) line m h = carry-empty (order (m .session .coordinator) up) m h
 no-results (Read position) line m h = read-empty position m h
 no-results (Cut kept) line m h = cut-empty kept m
+no-results (Left place) line m h = absurd (h refl)
 no-results Unknown line m h = refl
 
 pub commands-refused : CommandsRefused

@@ -107,7 +107,7 @@ cuts kept m =
     let c = m .session .coordinator in
     cond (ltb (logEnd c) (c .flushed + kept)) (stays (refused invalidNumber) m) (restarts (c .flushed + kept) m)
 
--- a command of a line; "`flush` takes all"
+-- a command of a line; "`flush` takes all"; 02, of `left`: "Our display shows a roll-forward's progress as the number of ones left in the set"
 unfoldable pub performed : Command → List ℕ → Memory → Outcome
 performed (Init name timeout time) line m = called (call (initCall (bytesOf line name) timeout time)) 0 m
 performed (Add name pid epoch set time) line m = called (call (addCall (bytesOf line name) pid epoch set time)) 0 m

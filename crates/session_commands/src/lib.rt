@@ -1,12 +1,16 @@
-// The commands of a session: `put` and `read` at its partitions, and all commands as one function.
+// The commands of a session: `put` and `read` at its partitions, `left` for a display, and all commands as one function.
 use command::Command;
 use session::Performed;
+use session::Results;
 use session::Session;
-ghost use mathlib.Core.List.{List};
+ghost use mathlib.Core.List.{List, [], _∷_};
 ghost use Prim.Native.Nat.{ℕ};
+ghost use lib.IntN.{pos};
+ghost use Rattle.answers.specs.Answers.{accepted};
+ghost use Rattle.coordinator.specs.Left.{left};
 ghost use Rattle.server.specs.Calls.{produceCall};
 ghost use Rattle.session.specs.Memory.{memory, indexOf};
-ghost use Rattle.session.specs.Commands.{called, reads, performed, Performs, PerformsOnWords};
+ghost use Rattle.session.specs.Commands.{called, stays, reads, performed, Performs, PerformsOnLog, PerformsOnWords};
 
 // `put NAME PID EPOCH POSITION SEQUENCE PAYLOAD`, at the partition of the position.
 fn put(
@@ -66,6 +70,18 @@ fn read(s: Session, words: &[u64], payloads: &mut [u64], position: usize) -> Per
     }
 }
 
+// `left PLACE`: how many partitions of the place's prepare are not acknowledged.
+fn left(s: Session, place: usize) -> Performed
+    ensures { λ r. ⌜ ((log : List ℕ) → PerformsOnLog (stays (accepted (pos (left (s .coordinator) place) ∷ []))) s log r log) ⌝ }
+{
+    let c = s.coordinator;
+    let count = completion::left(c, place);
+    Performed {
+        response: session::accepted(Results::Left(count)),
+        session: s,
+    }
+}
+
 // ---- All of them.
 
 // A command of a line: its response, and what it does to the session and the buffers.
@@ -94,6 +110,7 @@ pub fn perform(
         }
         Command::Carry { up } => carry_command::carry(s, log, words, up),
         Command::Read { position } => read(s, words, payloads, position as usize),
+        Command::Left { place } => left(s, place as usize),
         _ => log_commands::on_log(s, command, line, log),
     }
 }

@@ -34,7 +34,7 @@ use Rattle.agreement.proofs.Steps.{run-reached, always}
 use Rattle.restart.proofs.Demand3.{demand-3}
 use Rattle.restart.proofs.InEveryRun.{in-every-run}
 use Rattle.command.specs.declared.Command.{Command}
-use Rattle.command.specs.declared.Command.the-variants.{Init, Add, End, Tick, Flush, Put, Carry, Read, Cut, Unknown}
+use Rattle.command.specs.declared.Command.the-variants.{Init, Add, End, Tick, Flush, Put, Carry, Read, Cut, Left, Unknown}
 use Rattle.session.specs.Limits.{firstPid, lastPid, firstEpoch}
 use Rattle.session.specs.Memory.{Memory, opened, indexOf, serverAt}
 use Rattle.fields.specs.Fields.{bytesOf}
@@ -97,6 +97,7 @@ module _ (m : Memory) (leaders : List Leader) (k : Carrying) (h : History) (held
   world-command inv (Carry up) line t = carry-shown m leaders k h held inv up t (order (m .session .coordinator) up) refl
   world-command inv (Read position) line t = read-shown position (member (m .session .coordinator .catalogue .all) position)
   world-command inv (Cut kept) line t = cut-shown m leaders k h held kept (eqb (cuts kept m .reply .number) 0) refl
+  world-command inv (Left place) line t = as-shown m leaders k h held
   world-command inv Unknown line t = as-shown m leaders k h held
 
 command-shown : (m : Memory) (w : World) → Invariant w → Shown w m → (command : Command) (line : List ℕ) → commandTyped command ≡ true

@@ -15,10 +15,10 @@ use Rattle.numbers.specs.Signed.{inRange, toNat}
 use Rattle.search.specs.Search.{Each}
 use Rattle.coordinator.specs.Calls.{isWord}
 use Rattle.command.specs.declared.Command.{Command}
-use Rattle.command.specs.declared.Command.the-variants.{Init, Add, End, Tick, Flush, Put, Carry, Read, Cut, Unknown}
+use Rattle.command.specs.declared.Command.the-variants.{Init, Add, End, Tick, Flush, Put, Carry, Read, Cut, Left, Unknown}
 use Rattle.fields.specs.Fields.{count, partAt, field}
 use Rattle.fields.specs.Numbers.{integerOf, within, signed}
-use Rattle.command.specs.Command.{given, int16, int32, int64, uint64, ofFields, changeOf, initOf, addOf, endOf, tickOf, flushOf, putOf, carryOf, readOf, cutOf, commandsOf, commandAt, commandOf}
+use Rattle.command.specs.Command.{given, int16, int32, int64, uint64, ofFields, changeOf, initOf, addOf, endOf, tickOf, flushOf, putOf, carryOf, readOf, cutOf, leftOf, commandsOf, commandAt, commandOf}
 use Rattle.command.specs.Words.{rowOf}
 use Rattle.session_runs.specs.Items.{CommandLine, commandTyped}
 use Rattle.session_runs.specs.SessionRuns.{commandLine, EveryTextRuns}
@@ -110,6 +110,10 @@ module _ (line : List ℕ) where
   unfolding cutOf
   cut-typed = fields-typed 2 _ (unsigned-typed line 1 (λ kept. Cut kept) (λ kept a. refl))
 
+  left-typed : commandTyped (leftOf line) ≡ true
+  unfolding leftOf
+  left-typed = fields-typed 2 _ (unsigned-typed line 1 (λ place. Left place) (λ place a. refl))
+
   at-typed : (row : ℕ) → commandTyped (getD (commandsOf line) row Unknown) ≡ true
   at-typed zero = init-typed
   at-typed (suc zero) = add-typed
@@ -120,7 +124,8 @@ module _ (line : List ℕ) where
   at-typed (suc (suc (suc (suc (suc (suc zero)))))) = carry-typed
   at-typed (suc (suc (suc (suc (suc (suc (suc zero))))))) = read-typed
   at-typed (suc (suc (suc (suc (suc (suc (suc (suc zero)))))))) = cut-typed
-  at-typed (suc (suc (suc (suc (suc (suc (suc (suc (suc row))))))))) = refl
+  at-typed (suc (suc (suc (suc (suc (suc (suc (suc (suc zero))))))))) = left-typed
+  at-typed (suc (suc (suc (suc (suc (suc (suc (suc (suc (suc row)))))))))) = refl
 
   pub line-typed : commandTyped (commandOf line) ≡ true
   unfolding commandOf commandAt

@@ -12,7 +12,7 @@ use Rattle.coordinator.specs.Calls.{initCall, addCall, endCall, tickCall, flush
 use Rattle.server.specs.Lines.{catalogueText}
 use Rattle.runs.specs.World.{World, FirstOpening, own, Item, call, callOrder, callProduce, callRead, deliver, acknowledge, cut, reopen, run}
 use Rattle.command.specs.declared.Command.{Command}
-use Rattle.command.specs.declared.Command.the-variants.{Init, Add, End, Tick, Flush, Put, Carry, Read, Cut, Unknown}
+use Rattle.command.specs.declared.Command.the-variants.{Init, Add, End, Tick, Flush, Put, Carry, Read, Cut, Left, Unknown}
 use Rattle.session.specs.Limits.{firstPid, lastPid, firstEpoch}
 use Rattle.session.specs.Memory.{Memory, memory, opened, wordsAt}
 use Rattle.fields.specs.Fields.{bytesOf}
@@ -55,10 +55,11 @@ commandTyped (Put name pid epoch position sequence payload) = fits w64 pid && fi
 commandTyped (Carry up) = isWord up
 commandTyped (Read position) = true
 commandTyped (Cut kept) = true
+commandTyped (Left place) = true
 commandTyped Unknown = true
 
 -- what a command is in a run: a call; for `carry` an order that is given, delivered and acknowledged; for an accepted `cut` a cut and an opening.
--- A `read` outside the catalogue and a `cut` that is refused make no call.
+-- A `read` outside the catalogue, a `cut` that is refused and a `left` make no call.
 abbrev pub itemsOf : Command → List ℕ → World → Memory → List Item
 itemsOf (Init name timeout time) line w m = call own (initCall (bytesOf line name) timeout time) ∷ []
 itemsOf (Add name pid epoch set time) line w m = call own (addCall (bytesOf line name) pid epoch set time) ∷ []
@@ -71,6 +72,7 @@ itemsOf (Read position) line w m = cond (member (m .session .coordinator .catalo
 itemsOf (Cut kept) line w m =
     let c = m .session .coordinator in
     cond (eqb (cuts kept m .reply .number) 0) (cut (c .flushed + kept) ∷ reopen (nextEpoch (c .epoch)) firstPid lastPid ∷ []) []
+itemsOf (Left place) line w m = []
 itemsOf Unknown line w m = []
 
 -- ---- a list of commands

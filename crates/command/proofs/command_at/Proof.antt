@@ -43,6 +43,9 @@ read-of-requires c κs = search needs
 cut-of-requires : tie.Need-cut-of-requires
 cut-of-requires c κs = search needs
 
+left-of-requires : tie.Need-left-of-requires
+left-of-requires c κs = search needs
+
 returns : tie.Need-returns
 unfolding commandAt
 returns c = c .init-of .ensures ∙ at-row (c .before .before) 0 (c .before .match .keys1)
@@ -81,12 +84,16 @@ returns-9 c = c .cut-of .ensures ∙ at-row (c .before .before) 8 (c .before .ma
 
 returns-10 : tie.Need-returns-10
 unfolding commandAt
-returns-10 c =
+returns-10 c = c .left-of .ensures ∙ at-row (c .before .before) 9 (c .before .match .keys10)
+
+returns-11 : tie.Need-returns-11
+unfolding commandAt
+returns-11 c =
     let s = c .before .before in
     let n = c .match .rest in
     let r = s .args .row in
     sym (List·getD-eq-default (commandsOf (s .args .line .now)) Unknown {n = r}
-    (past r 8 (past r 7 (past r 6 (past r 5 (past r 4 (past r 3 (past r 2 (past r 1 (past r 0 (omega arith) (n .0 .0 .0 .0 .0 .0 .0 .0 .1)) (n .0 .0 .0 .0 .0 .0 .0 .1)) (n .0 .0 .0 .0 .0 .0 .1)) (n .0 .0 .0 .0 .0 .1)) (n .0 .0 .0 .0 .1)) (n .0 .0 .0 .1)) (n .0 .0 .1)) (n .0 .1)) (n .1)))
+    (past r 9 (past r 8 (past r 7 (past r 6 (past r 5 (past r 4 (past r 3 (past r 2 (past r 1 (past r 0 (omega arith) (n .0 .0 .0 .0 .0 .0 .0 .0 .0 .1)) (n .0 .0 .0 .0 .0 .0 .0 .0 .1)) (n .0 .0 .0 .0 .0 .0 .0 .1)) (n .0 .0 .0 .0 .0 .0 .1)) (n .0 .0 .0 .0 .0 .1)) (n .0 .0 .0 .0 .1)) (n .0 .0 .0 .1)) (n .0 .0 .1)) (n .0 .1)) (n .1)))
 
 pub command-at-spec : {M : Type 1} → statement M
 command-at-spec =
@@ -101,6 +108,7 @@ command-at-spec =
     carry-of-requires
     read-of-requires
     cut-of-requires
+    left-of-requires
     returns
     returns-2
     returns-3
@@ -110,4 +118,5 @@ command-at-spec =
     returns-7
     returns-8
     returns-9
-    returns-10)
+    returns-10
+    returns-11)

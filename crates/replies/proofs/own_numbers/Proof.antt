@@ -23,6 +23,12 @@ enum-known-results-3 c = search needs
 enum-told-3 : tie.Need-enum-told-3
 enum-told-3 c = search needs
 
+enum-known-results-4 : tie.Need-enum-known-results-4
+enum-known-results-4 c = search needs
+
+cast-t13 : tie.Need-cast-t13
+cast-t13 c = search needs
+
 returns : tie.Need-returns
 returns c = search needs
 
@@ -41,6 +47,9 @@ returns-5 c = ap ownNumbers (sym (c .before .results3 .given .1))
 returns-6 : tie.Need-returns-6
 returns-6 c = search needs
 
+returns-7 : tie.Need-returns-7
+returns-7 c = ap ownNumbers (sym (c .before .results4 .given .1))
+
 pub own-numbers-spec : {M : Type 1} → statement M
 own-numbers-spec =
     tie.close
@@ -51,9 +60,12 @@ own-numbers-spec =
     enum-known-results-2
     enum-known-results-3
     enum-told-3
+    enum-known-results-4
+    cast-t13
     returns
     returns-2
     returns-3
     returns-4
     returns-5
-    returns-6)
+    returns-6
+    returns-7)

@@ -44,6 +44,9 @@ enum-known-results-2 c = search needs
 payloads-rendered-requires : tie.Need-payloads-rendered-requires
 payloads-rendered-requires c κs = search needs
 
+enum-told-5 : tie.Need-enum-told-5
+enum-told-5 c = search needs
+
 returns : tie.Need-returns
 returns c = search needs
 
@@ -70,6 +73,9 @@ returns-6 c =
     let a = g .before .before .args in
     c .payloads-rendered .ensures ∙ ap (λ (x : Results). resultsRendered (a .dash) x (a .lent)) (sym (g .results2 .given .1))
 
+returns-7 : tie.Need-returns-7
+returns-7 c = search needs
+
 pub results-rendered-spec : {M : Type 1} → statement M
 results-rendered-spec =
     tie.close
@@ -83,9 +89,11 @@ results-rendered-spec =
     enum-told-4
     enum-known-results-2
     payloads-rendered-requires
+    enum-told-5
     returns
     returns-2
     returns-3
     returns-4
     returns-5
-    returns-6)
+    returns-6
+    returns-7)

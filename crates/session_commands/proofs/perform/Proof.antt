@@ -4,7 +4,7 @@ use mathlib.Core.List.{List}
 use Prim.Native.Nat.{ℕ}
 use mir.Syntax.{w16, w32, w64}
 use mir.Val.{toZ, ofZ}
-use Rattle.command.specs.declared.Command.the-variants.{Put, Carry, Read}
+use Rattle.command.specs.declared.Command.the-variants.{Put, Carry, Read, Left}
 use Rattle.server.specs.Calls.{produceCall}
 use Rattle.session.specs.Memory.{Memory, memory, indexOf}
 use Rattle.session.specs.Commands.{called, performed}
@@ -48,6 +48,12 @@ enum-known-command-3 c = search needs
 
 read-requires : tie.Need-read-requires
 read-requires c κs = search needs
+
+enum-known-command-4 : tie.Need-enum-known-command-4
+enum-known-command-4 c = search needs
+
+left-requires : tie.Need-left-requires
+left-requires c κs = search needs
 
 on-log-requires : tie.Need-on-log-requires
 on-log-requires c κs = search needs
@@ -101,16 +107,23 @@ returns-3 c =
     let a = s .args in
     performed-as (Read (g .command3 .given .0 .0)) (a .line .now) (entry s) (t .read .result) (g .command3 .given .1) (unfold performed in t .read .ensures (a .log .now))
 
+returns-4 : tie.Need-returns-4
+returns-4 c =
+    let g = c .before .before in
+    let s = start (g .before .before) in
+    let a = s .args in
+    performed-as (Left (g .command4 .given .0 .0)) (a .line .now) (entry s) (c .left .result) (g .command4 .given .1) (unfold performed in c .left .ensures (a .log .now) (a .words .now) (a .payloads .now))
+
 same-length-6 : tie.Need-same-length-6
 same-length-6 c = search needs
 
-returns-4 : tie.Need-returns-4
-returns-4 c =
+returns-5 : tie.Need-returns-5
+returns-5 c =
     let t = c .before .before in
     let g = t .before .before in
     let s = start (g .before) in
     let a = s .args in
-    on-log-as (a .command) (a .line .now) (entry s) (t .on-log .result) (g .match .keys4) (t .on-log .ensures (a .words .now) (a .payloads .now))
+    on-log-as (a .command) (a .line .now) (entry s) (t .on-log .result) (g .match .keys5) (t .on-log .ensures (a .words .now) (a .payloads .now))
 
 pub perform-spec : {M : Type 1} → statement M
 perform-spec =
@@ -123,6 +136,8 @@ perform-spec =
     carry-requires
     enum-known-command-3
     read-requires
+    enum-known-command-4
+    left-requires
     on-log-requires
     same-length
     returns
@@ -132,5 +147,6 @@ perform-spec =
     same-length-4
     same-length-5
     returns-3
+    returns-4
     same-length-6
-    returns-4)
+    returns-5)
