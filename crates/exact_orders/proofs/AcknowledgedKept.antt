@@ -39,7 +39,7 @@ use Rattle.writable_logs.proofs.Lawful.{Lawful, decided-lawful}
 use Rattle.partition.specs.Partition.{Action as PartitionAction, keep as keepPartition, note, write}
 use Rattle.partition.specs.Marker.{marker}
 use Rattle.server.specs.Produce.{produce}
-use Rattle.runs.specs.History.{Order, Event, recordAppended, logFlushed, logCut, logOpened, orderGiven, markerWritten, orderCarried, entryWritten, History, Logged, recordsOf, isOf, latestOf}
+use Rattle.runs.specs.History.{Order, Produced, Event, recordAppended, logFlushed, logCut, logOpened, orderGiven, markerWritten, orderCarried, entryWritten, History, Logged, recordsOf, isOf, latestOf}
 use Rattle.runs.specs.World.{Phase, up, down, Carrying, nothing, toAcknowledge, World, catalogueOf, leaderAt, FirstOpening, Accepted, start, own, another, Item, call, callOrder, callProduce, callRead, deliver, acknowledge, cut, reopen, isAck, inLists, withEvent, coordinatorElsewhere, lentPartition, leaderDoes, historyAfter, coordinatorDoes, next, step, run}
 use Rattle.runs.specs.ExactOrders.{acknowledgedOrders, isAcknowledged}
 use Rattle.runs.proofs.Admitted.{step-own}
@@ -64,6 +64,10 @@ use Rattle.exact_orders.proofs.Acknowledged.{RowAcknowledged, RowsAckno
 orders-carried : (o : Order) (h : History) → acknowledgedOrders (orderCarried o ∷ h) ≡ o ∷ acknowledgedOrders h
 unfolding acknowledgedOrders
 orders-carried o h = refl
+
+orders-produced : (e : Produced) (h : History) → acknowledgedOrders (entryWritten e ∷ h) ≡ acknowledgedOrders h
+unfolding acknowledgedOrders
+orders-produced e h = refl
 
 -- ---- what is acknowledged
 
@@ -262,7 +266,7 @@ module _ (w : World) (i : Invariant w) (a : Acknowledged (w .phase) (w .history)
       while-up-cases Keeps w same-world _
       (λ s u. leader-cases Keeps w same-world lent _ _ _ _
       (λ o. let x = lentPartition s position other in
-      led x (produce s (leaderAt w x .partition) (length (leaderAt w x .words)) name pid epoch position sequence payload .action) (entryWritten _) nothing (entry-records h _ .records) (unfold acknowledgedOrders in refl))
+      led x (produce s (leaderAt w x .partition) (length (leaderAt w x .words)) name pid epoch position sequence payload .action) (entryWritten _) nothing (entry-records h _ .records) (orders-produced _ h))
       (λ n e j. a))
   next-acknowledged (callRead lent x from out) so = while-up-cases Keeps w same-world _ (λ s u. read-cases Keeps w same-world lent x (λ j. a))
   next-acknowledged (deliver lent n) so =
