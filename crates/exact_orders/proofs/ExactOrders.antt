@@ -3,7 +3,7 @@
 -- is left of a prepare (`leftOf`, crate restart) and what the history says is not acknowledged are one number, with the coordinator up or down.
 -- The orders carried for a prepare and what is left of it have one sum as long as it is not completed (`TotalOrders`), and with none left it is completed.
 use mathlib.Core.Path.{_≡_, refl, subst}
-use mathlib.Core.List.{List, [], _++_}
+use mathlib.Core.List.{[], _++_}
 use lib.IntN.{ℤ}
 use Rattle.search.specs.Search.{Each}
 use Rattle.runs.specs.History.{Logged, pendingPrepares, listed}

@@ -1,7 +1,7 @@
 -- Histories in which a prepare completes after too few or too many orders, and displays that show another number than is left; beside them those that are right.
 use Prim.Native.Nat.{ℕ}
 use mathlib.Core.Path.{_≡_}
-use mathlib.Core.List.{List, [], _∷_}
+use mathlib.Core.List.{_∷_}
 use lib.IntN.{pos}
 use lib.ListN.{replicate}
 use Rattle.record.specs.declared.Status.the-variants.{Begin, PrepareCommit, CompleteCommit}
