@@ -43,7 +43,7 @@ pub exact-orders : ExactOrders
 exact-orders =
     record {
       shows = λ o accepted items s u place. shows-place (run items (start o)) (always o accepted items) (always-acknowledged o accepted items) s u place;
-      completes = λ o accepted items afterwards undisturbed.
+      continues = λ o accepted items afterwards undisturbed.
           continued (run items (start o)) (always o accepted items) (always-acknowledged o accepted items) afterwards undisturbed
           (subst (λ (v : World). Acknowledged (v .phase) (v .history)) (run-append items afterwards (start o)) (always-acknowledged o accepted (items ++ afterwards)));
       none-after-cut = λ o accepted items n before epoch first last u.

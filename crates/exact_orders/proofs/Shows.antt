@@ -81,7 +81,7 @@ module _ (w : World) (i : Invariant w) (a : Acknowledged (w .phase) (w .history)
   empty-lacks : latestOf [] h ≡ none
   empty-lacks = option-either (latestOf [] h) (λ e. e) (λ x e. absurd (starts-of c (w .log) s h log (i .of-history) [] x e refl))
 
-  named-left : (k : ℕ) → left s k ≡ shownOf h (latestOf (nameAt h k) h)
+  pub named-left : (k : ℕ) → left s k ≡ shownOf h (latestOf (nameAt h k) h)
   named-left k =
       either (ltb k (length (names h)))
       (λ t. place-left k ∙ ap (λ (name : List ℕ). shownOf h (latestOf name h)) (name-at c (w .log) s h log (i .of-history) k (ltb-true k (length (names h)) t)))

@@ -15,7 +15,7 @@ use Rattle.writable_logs.specs.RecordsSay.{hasName, namesOf}
 use Rattle.runs.specs.History.{collect, endingBy, recordsOf, flushedOf, isCompleted}
 use Rattle.runs.specs.World.{World}
 use Rattle.runs.specs.ExactOrders.{acknowledgedOrders, notAcknowledged, carriedSince, Continued}
-use Rattle.false_worlds.specs.ExactOrders.{Count, IsExact, FalseCount, oneEarly, noneCarried, orderForAnother, oneLate, allCounted, offeredAgain, completedByThree, otherPosition, keptOverCut, nothingLeft, falseCount, TrueCount, atOnce, afterOne, afterBoth, afterwards, fromHalf, fromCut, fromOpening, nextPrepare, trueCount, IsShown, FalseDisplay, showsAll, keepsOverCut, keepsOverPrepare, showsCompleted, hidesFlushed, hidesAppended, showsBegin, falseDisplay, TrueDisplay, ofBegin, ofAppended, ofFlushed, ofHalf, ofCompleted, ofNoName, pastLast, trueDisplay}
+use Rattle.false_worlds.specs.ExactOrders.{Count, IsExact, FalseCount, oneEarly, noneCarried, orderForAnother, oneLate, allCounted, offeredAgain, completedByThree, otherPosition, keptOverCut, nothingLeft, falseCount, TrueCount, atOnce, afterOne, afterBoth, afterwards, fromHalf, fromCut, fromOpening, nextPrepare, trueCount, stateOf, IsShown, showing, FalseDisplay, showsAll, keepsOverCut, keepsOverPrepare, showsCompleted, hidesFlushed, hidesAppended, showsBegin, falseDisplay, TrueDisplay, ofBegin, ofAppended, ofFlushed, ofHalf, ofCompleted, ofNoName, pastLast, trueDisplay}
 use Rattle.false_worlds.specs.Histories.{withHistory}
 use Rattle.false_worlds.specs.Progress.{NoOrder, withoutOrder, NotAccepted, notAccepted}
 use Rattle.false_worlds.proofs.Differ.{differ, fails, above}
@@ -95,6 +95,11 @@ true-displays pastLast = refl
 pub count-lost : Continued (withHistory (falseCount oneEarly .earlier)) (withHistory (falseCount oneEarly .later)) → ⊥
 unfolding recordsOf flushedOf find findLast filter same
 count-lost = λ c. let (here, rest) = c .exactly in false-counts oneEarly here
+
+-- one order is carried of two, and the display shows two
+pub display-lost : Continued (withHistory (trueCount afterOne .earlier)) (showing (falseDisplay showsAll)) → ⊥
+unfolding left ones acknowledgedOrders collect hasName namesOf recordsOf flushedOf find findLast filter countWhere members same
+display-lost = λ c. let (here, rest) = c .displayed (stateOf (falseDisplay showsAll)) refl in differ 3 2 refl refl (here 0 refl refl)
 
 pub order-lost : (w : World) (x : NoOrder) → Continued w (withoutOrder x) → ⊥
 order-lost w x = λ c. no-order-given x (c .orders-given)

@@ -1,16 +1,18 @@
 -- Histories in which a prepare completes after too few or too many orders, and displays that show another number than is left; beside them those that are right.
 use Prim.Native.Nat.{ℕ}
 use mathlib.Core.Path.{_≡_}
-use mathlib.Core.List.{_∷_}
+use mathlib.Core.List.{[], _∷_}
 use lib.IntN.{pos}
 use lib.ListN.{replicate}
 use Rattle.record.specs.declared.Status.the-variants.{Begin, PrepareCommit, CompleteCommit}
 use Rattle.row.specs.Row.{freeRow}
 use Rattle.row.specs.declared.Row.{Row}
 use Rattle.coordinator.specs.Left.{left}
+use Rattle.coordinator.specs.declared.Coordinator.{Coordinator}
 use Rattle.runs.specs.History.{recordAppended, logFlushed, logCut, logOpened, orderCarried, History, Logged}
+use Rattle.runs.specs.World.{up, nothing, World}
 use Rattle.runs.specs.ExactOrders.{shownAt, Exactly}
-use Rattle.false_worlds.specs.Histories.{recordOf7, begun, commits, committing, prepare, order7, state, rowIn}
+use Rattle.false_worlds.specs.Histories.{recordOf7, begun, commits, committing, prepare, order7, state, rowIn, worldOf}
 
 -- ---- histories of the prepare of both partitions, which is event 3
 
@@ -112,9 +114,16 @@ pub record Display : Type 0 where
   pub history : History
   pub place : ℕ
 
+abbrev pub stateOf : Display → Coordinator
+stateOf d = state (d .row ∷ replicate 31 freeRow) 190 190 190
+
 -- what the display shows of it is what the history says
 abbrev pub IsShown : Display → Type 0
-IsShown d = left (state (d .row ∷ replicate 31 freeRow) 190 190 190) (d .place) ≡ shownAt (d .history) (d .place)
+IsShown d = left (stateOf d) (d .place) ≡ shownAt (d .history) (d .place)
+
+-- a world with them
+abbrev pub showing : Display → World
+showing d = worldOf [] (up (stateOf d)) [] nothing (d .history)
 
 -- of place 0
 abbrev shows : Row → History → Display

@@ -124,7 +124,7 @@ unfolding openLeaders run collect collectWithBefore endingBy recordsOf framesOf 
 straight-undisturbed = (refl, (tt, (tt, tt)))
 
 pub demanded-exactly : ExactOrders → Continued afterShared (run straight afterShared)
-demanded-exactly r = r .completes opened opened-accepted shared straight straight-undisturbed
+demanded-exactly r = r .continues opened opened-accepted shared straight straight-undisturbed
 
 pub demanded-after-cut : ExactOrders → (n before : ℕ) → after halfCut .phase ≡ down n before
     → let h = step reopening (after halfCut) .history in

@@ -14,7 +14,7 @@ use Rattle.catalogue.specs.Limits.{positions}
 use Rattle.search.specs.Search.{find, isFound, countWhere, Each}
 use Rattle.coordinator.specs.Left.{left}
 use Rattle.coordinator.specs.declared.Coordinator.{Coordinator}
-use Rattle.runs.specs.History.{Order, recordAppended, logFlushed, logCut, logOpened, orderGiven, markerWritten, orderCarried, entryWritten, History, eventsFrom, Logged, latestOf, names, isPrepare, listed, isCompleted, pendingPrepares, carriedFor}
+use Rattle.runs.specs.History.{Order, recordAppended, logFlushed, logCut, logOpened, orderGiven, markerWritten, orderCarried, entryWritten, History, eventsFrom, Logged, latestOf, names, nameAt, isPrepare, listed, isCompleted, pendingPrepares, carriedFor}
 use Rattle.runs.specs.World.{up, down, World, catalogueOf, FirstOpening, Accepted, start, Item, reopen, step, run}
 use Rattle.runs.specs.Demand3.{OrdersGiven, CarryingAccepted, Undisturbed}
 
@@ -67,10 +67,18 @@ pub record Exactly (p : Logged) (earlier later : History) : Type 0 where
   -- before that, what is left is what has not been carried
   pub until-then : isCompleted later p ≡ false → carriedSince (length earlier) p later + notAcknowledged p later ≡ notAcknowledged p earlier
 
+-- until then the display shows at its place how many are still to be carried
+-- Not met by a display of all partitions, nor by a server that forgets an acknowledgement at another call.
+abbrev pub Displayed : Logged → Coordinator → History → History → Type 0
+Displayed p s earlier later =
+    (place : ℕ) → nameAt later place ≡ p .content .name → isCompleted later p ≡ false
+    → carriedSince (length earlier) p later + left s place ≡ notAcknowledged p earlier
+
 -- after an undisturbed list: "With no order or acknowledgement lost", for Order gives one as long as a flushed prepare is not completed, and no Marker
 -- and no Ack of it is refused
 pub record Continued (w v : World) : Type 0 where
   pub exactly : Each (λ (p : Logged). Exactly p (w .history) (v .history)) (pendingPrepares (w .history))
+  pub displayed : (s : Coordinator) → v .phase ≡ up s → Each (λ (p : Logged). Displayed p s (w .history) (v .history)) (pendingPrepares (w .history))
   pub orders-given : OrdersGiven (v .phase) v
   pub carrying-accepted : CarryingAccepted (v .carrying) v
 
@@ -84,7 +92,7 @@ pub record ExactOrders : Type 0 where
       w .phase ≡ up s → (place : ℕ) → left s place ≡ shownAt (w .history) place
   -- "counted as 3's last sentence is": from any moment of any run, the coordinator up or down, with any undisturbed list; each beginning of such a list
   -- is one, so it holds at every moment after
-  pub completes : (o : FirstOpening) → Accepted o → (items afterwards : List Item)
+  pub continues : (o : FirstOpening) → Accepted o → (items afterwards : List Item)
       → let w = run items (start o) in
       Each (Undisturbed (catalogueOf w .all)) afterwards → Continued w (run afterwards w)
   -- after a cut, and after the opening that follows it, none of a prepare's partitions is acknowledged
