@@ -1,10 +1,11 @@
 -- Every session is a run of demand 3.
 use Prim.Native.Nat.{ℕ}
-use mathlib.Core.Path.{_≡_, refl, sym, subst, _∙_}
+use mathlib.Core.Path.{_≡_, refl, sym, ap, subst, _∙_}
 use mathlib.Core.Bool.{Bool, true, false, cond}
 use mathlib.Core.List.{List, [], _∷_}
 use native.Mathlib.Omega.{arith}
 use lib.Dec.{eqb}
+use lib.IntN.{pos}
 use lib.ListN.{length, getD}
 use borrow.Author.Tests.{le-ltb}
 use Rattle.numbers.specs.Bytes.{overwrite, same}
@@ -12,7 +13,7 @@ use Rattle.numbers.specs.Padded.{untilZero}
 use Rattle.bits.specs.Bits.{member}
 use Rattle.search.specs.Search.{Each, sumOf}
 use Rattle.catalogue.specs.Catalogue.{nameByte, nameRun, isLine, lineAt, isNew, lines as catalogueLines, parse}
-use Rattle.answers.specs.Answers.{refused}
+use Rattle.answers.specs.Answers.{accepted as acceptedReply, refused}
 use Rattle.answers.specs.Refusals.{firstRefusal}
 use Rattle.answers.proofs.Laws.{none-is}
 use Rattle.table.specs.Table.{reserved}
@@ -33,6 +34,7 @@ use Rattle.agreement.proofs.Start.{start-invariant}
 use Rattle.agreement.proofs.Steps.{run-reached, always}
 use Rattle.restart.proofs.Demand3.{demand-3}
 use Rattle.restart.proofs.InEveryRun.{in-every-run}
+use Rattle.exact_orders.proofs.ExactOrders.{exact-orders}
 use Rattle.command.specs.declared.Command.{Command}
 use Rattle.command.specs.declared.Command.the-variants.{Init, Add, End, Tick, Flush, Put, Carry, Read, Cut, Left, Unknown}
 use Rattle.session.specs.Limits.{firstPid, lastPid, firstEpoch}
@@ -130,6 +132,8 @@ every-session-runs log words payloads lines ts =
       promised = λ rest. demand-3 o (accepted log words) items rest 0 firstEpoch firstPid lastPid [] .0;
       reads-committed = in-every-run .reads-committed o (accepted log words) items;
       admits-exactly = in-every-run .admits-exactly o (accepted log words) items;
+      displays = λ place line.
+          unfold performed in ap (λ (n : ℕ). acceptedReply (pos n ∷ [])) (exact-orders .shows o (accepted log words) items _ (shown-server _ _ s .phase) place);
       carried = λ up line t. unfold performed in carry-accepted _ (s .leaders) (s .carrying) (s .history) (s .held) (subst Invariant (s .is) inv) up t _ refl;
       restarts = λ kept line low left. unfold performed in cut-accepted _ (s .leaders) (s .carrying) (s .history) (s .held) kept (subst Invariant (s .is) inv) low left;
     }

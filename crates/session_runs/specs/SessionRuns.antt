@@ -2,15 +2,18 @@
 use Prim.Native.Nat.{ℕ, _+_, _≤_, _<_}
 use mathlib.Core.Path.{_≡_}
 use mathlib.Core.Bool.{true}
-use mathlib.Core.List.{List, map}
+use mathlib.Core.List.{List, [], _∷_, map}
+use lib.IntN.{pos}
 use Rattle.search.specs.Search.{Each}
+use Rattle.answers.specs.Answers.{accepted}
 use Rattle.coordinator.specs.Coordinator.{logEnd}
 use Rattle.server.specs.Lines.{catalogueText}
 use Rattle.runs.specs.World.{World, Leader, up, leaderAt, Accepted, start, Item, run}
 use Rattle.runs.specs.Demand3.{Promised}
 use Rattle.runs.specs.InEveryRun.{AdmitsExactly, ReadsCommitted}
+use Rattle.runs.specs.ExactOrders.{shownAt}
 use Rattle.command.specs.Command.{commandOf}
-use Rattle.command.specs.declared.Command.the-variants.{Carry, Cut}
+use Rattle.command.specs.declared.Command.the-variants.{Carry, Cut, Left}
 use Rattle.session.specs.Limits.{lastEpoch}
 use Rattle.session.specs.Memory.{Memory, partitionAt, wordsAt}
 use Rattle.session.specs.Commands.{performed}
@@ -38,6 +41,9 @@ pub record SessionRuns (log words payloads : List ℕ) (lines : List CommandLine
   -- every Read answers what stands under COMMIT, and no slice of its own length is refused with 8
   pub reads-committed : let w = start (firstOpening log words) in ReadsCommitted (run (itemsOfAll lines w (firstMemory log words payloads)) w)
   pub admits-exactly : let w = start (firstOpening log words) in AdmitsExactly (run (itemsOfAll lines w (firstMemory log words payloads)) w)
+  -- `left` shows of every place what the history of the run says is left there
+  pub displays : let w = start (firstOpening log words) in let m = firstMemory log words payloads in
+      (place : ℕ) (line : List ℕ) → performed (Left place) line (afterCommands lines m) .reply ≡ accepted (pos (shownAt (run (itemsOfAll lines w m) w .history) place) ∷ [])
   -- no `carry` is refused
   pub carried : (up : ℕ) (line : List ℕ) → commandTyped (Carry up) ≡ true → performed (Carry up) line (afterCommands lines (firstMemory log words payloads)) .reply .number ≡ 0
   -- a cut that leaves no more than there is, is accepted, until the coordinator epochs are spent
