@@ -41,37 +41,22 @@ use Rattle.runs.specs.ExactOrders.{acknowledgedOrders}
 use Rattle.run_examples.specs.Examples.{after}
 use Rattle.run_examples.specs.ExactOrders.{Moment, begun, prepareAppended, prepareFlushed, abortFlushed, orderGiven, orderDelivered, orderAcknowledged, ackRefused, completed, completeLostByCut, restarted, twoPlaces, firstOfTwo, itemsOf, displays, shown, expectedDisplays, Window, oneOfTwo, twoOfTwo, fromMarker, fromAck, fromCut, fromOpening, ofTwoPlaces, windowCounts, expectedCounts}
 
-pub displays-hold : (x : Moment) → displays (after (itemsOf x) .phase) ≡ expectedDisplays x
+-- by the state, and by the history
+pub displays-hold : (x : Moment) → let w = after (itemsOf x) in (displays (w .phase) ≡ expectedDisplays x) × (shown (w .history) ≡ expectedDisplays x)
 unfolding left acknowledgedOrders hasName namesOf openLeaders run collect collectWithBefore endingBy recordsOf framesOf flushedOf wordsOf recordsRead find findLast filter ones overwrite same bigEndian integerBytes untilZero members nameByte nameRun isLine lineAt isNew catalogueLines parse nameBytes key partitionBytes topicEntry topicBytes topicsBelow countBelow topics value frame firstWhere countWhere sumOf firstRefusal nameFits scanWithin placeOf lowestFree idCount reserved apply admits notHeld logFull appended readTests takeOverTests openTests opening initRow initTests initRowTests initAccepted init allJoined addRow addTests addRowTests addAction add overdue overduePlace tickTests tickAccepted tick flushTests flush openPartition openCount partitionAdmits lastSequence nextSequence produced partitionFull produceTests produceRowTests produce readFrameWithin judged candidate wellFormed validName fieldsFit joinedFits startFits integerOf numberFrom walk past topicAt nameStands partitionsAt partitionsOf partitionsBelow withPartition mayCome succeeds first follows keeps mayFollowStatus initializes begins widens preparesCommit preparesAbort completes ackTests ackRowTests ackAction ack acknowledged endFits endTests endRowTests endAction end ordered orderPlace order markerTests closed markerAction marker oldest nextMarker committed copy readOffsetTests readAnswer readOut trailingZeros
-displays-hold begun = refl
-displays-hold prepareAppended = refl
-displays-hold prepareFlushed = refl
-displays-hold abortFlushed = refl
-displays-hold orderGiven = refl
-displays-hold orderDelivered = refl
-displays-hold orderAcknowledged = refl
-displays-hold ackRefused = refl
-displays-hold completed = refl
-displays-hold completeLostByCut = refl
-displays-hold restarted = refl
-displays-hold twoPlaces = refl
-displays-hold firstOfTwo = refl
-
-pub shown-hold : (x : Moment) → shown (after (itemsOf x) .history) ≡ expectedDisplays x
-unfolding left acknowledgedOrders hasName namesOf openLeaders run collect collectWithBefore endingBy recordsOf framesOf flushedOf wordsOf recordsRead find findLast filter ones overwrite same bigEndian integerBytes untilZero members nameByte nameRun isLine lineAt isNew catalogueLines parse nameBytes key partitionBytes topicEntry topicBytes topicsBelow countBelow topics value frame firstWhere countWhere sumOf firstRefusal nameFits scanWithin placeOf lowestFree idCount reserved apply admits notHeld logFull appended readTests takeOverTests openTests opening initRow initTests initRowTests initAccepted init allJoined addRow addTests addRowTests addAction add overdue overduePlace tickTests tickAccepted tick flushTests flush openPartition openCount partitionAdmits lastSequence nextSequence produced partitionFull produceTests produceRowTests produce readFrameWithin judged candidate wellFormed validName fieldsFit joinedFits startFits integerOf numberFrom walk past topicAt nameStands partitionsAt partitionsOf partitionsBelow withPartition mayCome succeeds first follows keeps mayFollowStatus initializes begins widens preparesCommit preparesAbort completes ackTests ackRowTests ackAction ack acknowledged endFits endTests endRowTests endAction end ordered orderPlace order markerTests closed markerAction marker oldest nextMarker committed copy readOffsetTests readAnswer readOut trailingZeros
-shown-hold begun = refl
-shown-hold prepareAppended = refl
-shown-hold prepareFlushed = refl
-shown-hold abortFlushed = refl
-shown-hold orderGiven = refl
-shown-hold orderDelivered = refl
-shown-hold orderAcknowledged = refl
-shown-hold ackRefused = refl
-shown-hold completed = refl
-shown-hold completeLostByCut = refl
-shown-hold restarted = refl
-shown-hold twoPlaces = refl
-shown-hold firstOfTwo = refl
+displays-hold begun = (refl, refl)
+displays-hold prepareAppended = (refl, refl)
+displays-hold prepareFlushed = (refl, refl)
+displays-hold abortFlushed = (refl, refl)
+displays-hold orderGiven = (refl, refl)
+displays-hold orderDelivered = (refl, refl)
+displays-hold orderAcknowledged = (refl, refl)
+displays-hold ackRefused = (refl, refl)
+displays-hold completed = (refl, refl)
+displays-hold completeLostByCut = (refl, refl)
+displays-hold restarted = (refl, refl)
+displays-hold twoPlaces = (refl, refl)
+displays-hold firstOfTwo = (refl, refl)
 
 pub counts-hold : (x : Window) → windowCounts x ≡ expectedCounts x
 unfolding left acknowledgedOrders hasName namesOf openLeaders run collect collectWithBefore endingBy recordsOf framesOf flushedOf wordsOf recordsRead find findLast filter ones overwrite same bigEndian integerBytes untilZero members nameByte nameRun isLine lineAt isNew catalogueLines parse nameBytes key partitionBytes topicEntry topicBytes topicsBelow countBelow topics value frame firstWhere countWhere sumOf firstRefusal nameFits scanWithin placeOf lowestFree idCount reserved apply admits notHeld logFull appended readTests takeOverTests openTests opening initRow initTests initRowTests initAccepted init allJoined addRow addTests addRowTests addAction add overdue overduePlace tickTests tickAccepted tick flushTests flush openPartition openCount partitionAdmits lastSequence nextSequence produced partitionFull produceTests produceRowTests produce readFrameWithin judged candidate wellFormed validName fieldsFit joinedFits startFits integerOf numberFrom walk past topicAt nameStands partitionsAt partitionsOf partitionsBelow withPartition mayCome succeeds first follows keeps mayFollowStatus initializes begins widens preparesCommit preparesAbort completes ackTests ackRowTests ackAction ack acknowledged endFits endTests endRowTests endAction end ordered orderPlace order markerTests closed markerAction marker oldest nextMarker committed copy readOffsetTests readAnswer readOut trailingZeros
