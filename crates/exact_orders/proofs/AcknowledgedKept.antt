@@ -97,8 +97,8 @@ carried-acknowledged : (p : Logged) (o : Order) (h : History) (x : ℕ) → isAc
 carried-acknowledged p o h x = rw (orders-carried o h) (found-more (λ (m : Order). eqb (m .for) (p .number) && eqb (m .position) x) o (acknowledgedOrders h))
 
 -- of a record that is not yet appended none is
-none-acknowledged : (p : Logged) (h : History) (x : ℕ) → OrdersBelow h → length h ≤ p .number → isAcknowledged p h x ≡ false
-none-acknowledged p h x b l =
+none-for-new : (p : Logged) (h : History) (x : ℕ) → OrdersBelow h → length h ≤ p .number → isAcknowledged p h x ≡ false
+none-for-new p h x b l =
     ap isFound (find-fails (λ (o : Order). eqb (o .for) (p .number) && eqb (o .position) x) (acknowledgedOrders h)
     (each-then (λ (o : Order). o .for < length h) (λ (o : Order). (eqb (o .for) (p .number) && eqb (o .position) x) ≡ false) (λ o m. rw (ne-eqb (o .for) (p .number) (λ e. omega arith)) refl) (acknowledgedOrders h) b))
 
@@ -151,7 +151,7 @@ module _ (w : World) (i : Invariant w) (a : Acknowledged (w .phase) (w .history)
             let at : placeOf (state .table) name ≡ place = ap (placeOf (state .table)) (sym named) ∙ own-place state (live-ready c log′ state v l t) place held in
             let empty : rowOfName state name .acknowledged ≡ 0 = ap (λ (k : ℕ). rowAt (state .table) k .acknowledged) at ∙ ap (λ (y : Row). y .acknowledged) (appended-here s place row inside) ∙ none in
             ap (λ (set : ℕ). member set x) empty ∙ member-is-not 0 x (bit-of-none x)
-            ∙ sym (none-acknowledged p g x below (omega (arith, ap (λ (y : Logged). y .number) is))) ∙ rw orders refl
+            ∙ sym (none-for-new p g x below (omega (arith, ap (λ (y : Logged). y .number) is))) ∙ rw orders refl
 
         -- and what is of the others stays
         other-row : isPrepare (p .content .status) ≡ true → (row .name ≡ p .content .name → ⊥) → isOf (p .content .name) new ≡ false → RowAcknowledged state v p
