@@ -1,0 +1,29 @@
+-- The examples of request 14 hold, by computation.
+use mathlib.Core.Path.{_≡_, refl}
+use mathlib.Core.Bool.{Bool, cond}
+use mathlib.Core.List.{[], _∷_, map}
+use Rattle.search.specs.Search.{Each, all, find}
+use Rattle.race.specs.declared.RaceAnswer.the-variants.{Forced, NotForced}
+use Rattle.race.specs.Game.{blockLog, noBlock, end, wait, BenchPlays}
+use Rattle.race.specs.Search.{canServe, canForce, raceAnswer}
+use Rattle.race.specs.Examples.{Play, played, plays, Answered, answered, smallBoards, otherBoards, everyMove, forcedByEveryMove, round, endsUnblocked}
+
+-- what is allowed, and what is completed
+pub plays-hold : map played plays ≡ plays
+unfolding all
+plays-hold = refl
+
+-- the search
+pub boards-hold : (map (λ (x : Answered). answered (x .board) (raceAnswer (x .board))) smallBoards ≡ smallBoards)
+    × (map (λ (x : Answered). answered (x .board) (raceAnswer (x .board))) otherBoards ≡ otherBoards)
+unfolding canServe canForce
+boards-hold = (refl, refl)
+
+-- the game itself, by every move of both sides
+pub every-move-holds : map (λ (x : Answered). answered (x .board) (cond (forcedByEveryMove (x .board)) Forced NotForced)) smallBoards ≡ smallBoards
+unfolding all find everyMove
+every-move-holds = refl
+
+-- the bench has seen the line's move of the round
+pub block-is-seen : BenchPlays endsUnblocked (round noBlock end ∷ round blockLog wait ∷ [])
+block-is-seen = ((tt, refl), refl)

@@ -1,0 +1,3 @@
+-- Laws of the crate race: a round of the search, and the examples.
+pub mod Search
+pub mod Examples

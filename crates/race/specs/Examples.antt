@@ -1,0 +1,143 @@
+-- Examples of request 14: plays and whether they are allowed and completed, boards and who wins them, by the search and by trying every move.
+use Prim.Native.Nat.{ℕ, zero, suc}
+use mathlib.Core.Bool.{Bool, true, false, not, _&&_, _||_}
+use mathlib.Core.List.{List, [], _∷_, reverse}
+use Rattle.search.specs.Search.{all, find, isFound}
+use Rattle.race.specs.declared.Board.{Board}
+use Rattle.race.specs.declared.RaceAnswer.{RaceAnswer}
+use Rattle.race.specs.declared.RaceAnswer.the-variants.{Forced, NotForced, Refused}
+use Rattle.race.specs.Game.{Position, start, completed, LineMove, noBlock, blockLog, blockPartition, BenchMove, end, carry, wait, lineMay, benchMay, Round, after, position, legal}
+
+abbrev pub board : ℕ → ℕ → ℕ → ℕ → Board
+board partitions timeout rounds blocks = record { partitions = partitions; timeout = timeout; rounds = rounds; blocks = blocks }
+
+abbrev pub round : LineMove → BenchMove → Round
+round line bench = record { line = line; bench = bench }
+
+-- ---- plays
+
+-- rounds in the order in which they were played, whether each move was allowed, and whether the commit is completed behind them
+pub record Play : Type 0 where
+  pub board : Board
+  pub rounds : List Round
+  pub allowed : Bool
+  pub completed : Bool
+
+abbrev pub play : Board → List Round → Bool → Bool → Play
+play b rounds allowed completed = record { board = b; rounds = rounds; allowed = allowed; completed = completed }
+
+-- what the game says of the rounds of a play
+abbrev pub played : Play → Play
+played x =
+    let rounds = reverse (x .rounds) in
+    play (x .board) (x .rounds) (legal (x .board) rounds) (completed (position (x .board) rounds))
+
+abbrev pub plays : List Play
+plays =
+    -- the end takes a round and each order takes one
+    play (board 1 1 2 0) (round noBlock end ∷ round noBlock (carry 0) ∷ []) true true ∷
+    play (board 2 1 3 0) (round noBlock end ∷ round noBlock (carry 1) ∷ round noBlock (carry 0) ∷ []) true true ∷
+    play (board 1 1 2 0) (round noBlock end ∷ []) true false ∷
+    play (board 2 1 3 0) (round noBlock end ∷ round noBlock (carry 0) ∷ []) true false ∷
+    -- no order before the end, none twice, none to another partition, and no second end
+    play (board 1 2 3 0) (round noBlock (carry 0) ∷ []) false false ∷
+    play (board 2 1 3 0) (round noBlock end ∷ round noBlock (carry 0) ∷ round noBlock (carry 0) ∷ []) false false ∷
+    play (board 1 1 2 0) (round noBlock end ∷ round noBlock (carry 1) ∷ []) false false ∷
+    play (board 1 2 2 0) (round noBlock end ∷ round noBlock end ∷ []) false false ∷
+    -- "round, from 0, below the timeout"
+    play (board 1 2 3 0) (round noBlock wait ∷ round noBlock end ∷ round noBlock (carry 0) ∷ []) true true ∷
+    play (board 1 1 3 0) (round noBlock wait ∷ round noBlock end ∷ round noBlock (carry 0) ∷ []) false true ∷
+    play (board 1 0 2 0) (round noBlock end ∷ round noBlock (carry 0) ∷ []) false true ∷
+    -- orders go on behind the timeout
+    play (board 1 1 4 0) (round noBlock end ∷ round noBlock wait ∷ round noBlock wait ∷ round noBlock (carry 0) ∷ []) true true ∷
+    -- a block on the log, "for that round"
+    play (board 1 2 3 1) (round blockLog end ∷ []) false false ∷
+    play (board 1 2 3 1) (round blockLog wait ∷ round noBlock end ∷ round noBlock (carry 0) ∷ []) true true ∷
+    play (board 1 1 3 1) (round noBlock end ∷ round blockLog (carry 0) ∷ []) true true ∷
+    -- a block on a partition, "for that round"
+    play (board 2 1 4 1) (round noBlock end ∷ round (blockPartition 1) (carry 1) ∷ []) false false ∷
+    play (board 2 1 4 1) (round noBlock end ∷ round (blockPartition 1) (carry 0) ∷ round noBlock (carry 1) ∷ []) true true ∷
+    play (board 1 1 2 1) (round (blockPartition 0) end ∷ round noBlock (carry 0) ∷ []) true true ∷
+    -- a block is spent once, on the log or on a partition of the board, be it served or not
+    play (board 1 3 4 0) (round blockLog wait ∷ []) false false ∷
+    play (board 1 3 4 0) (round (blockPartition 0) wait ∷ []) false false ∷
+    play (board 1 3 4 1) (round blockLog wait ∷ round blockLog wait ∷ []) false false ∷
+    play (board 1 3 4 1) (round (blockPartition 0) wait ∷ round blockLog wait ∷ []) false false ∷
+    play (board 1 3 4 2) (round blockLog wait ∷ round blockLog wait ∷ []) true false ∷
+    play (board 1 3 4 1) (round (blockPartition 1) wait ∷ []) false false ∷
+    play (board 1 1 3 1) (round noBlock end ∷ round noBlock (carry 0) ∷ round (blockPartition 0) wait ∷ []) true true ∷
+    []
+
+-- ---- boards
+
+-- a board and its answer
+pub record Answered : Type 0 where
+  pub board : Board
+  pub answer : RaceAnswer
+
+abbrev pub answered : Board → RaceAnswer → Answered
+answered b answer = record { board = b; answer = answer }
+
+-- boards of one and two partitions, at each limit of what the bench can force
+abbrev pub smallBoards : List Answered
+smallBoards =
+    -- rounds for the end and for each partition, and a timeout behind the first
+    answered (board 1 1 2 0) Forced ∷
+    answered (board 1 1 1 0) NotForced ∷
+    answered (board 1 0 2 0) NotForced ∷
+    answered (board 1 12 0 0) NotForced ∷
+    answered (board 2 1 3 0) Forced ∷
+    answered (board 2 1 2 0) NotForced ∷
+    -- each block takes a round, before the timeout and of them all
+    answered (board 1 2 3 1) Forced ∷
+    answered (board 1 2 2 1) NotForced ∷
+    answered (board 1 1 3 1) NotForced ∷
+    answered (board 2 2 4 1) Forced ∷
+    answered (board 2 2 3 1) NotForced ∷
+    answered (board 2 1 4 1) NotForced ∷
+    answered (board 1 3 4 2) Forced ∷
+    answered (board 1 3 3 2) NotForced ∷
+    answered (board 1 2 4 2) NotForced ∷
+    []
+
+-- large boards, and boards outside the limits
+abbrev pub otherBoards : List Answered
+otherBoards =
+    answered (board 6 6 12 5) Forced ∷
+    answered (board 6 12 12 6) NotForced ∷
+    answered (board 6 5 12 5) NotForced ∷
+    answered (board 6 12 11 5) NotForced ∷
+    answered (board 1 12 12 10) Forced ∷
+    answered (board 1 12 12 11) NotForced ∷
+    answered (board 1 12 12 12) NotForced ∷
+    answered (board 0 1 12 0) (Refused 30) ∷
+    answered (board 7 1 12 0) (Refused 30) ∷
+    answered (board 1 13 12 0) (Refused 30) ∷
+    answered (board 1 1 13 0) (Refused 30) ∷
+    answered (board 1 1 12 13) (Refused 30) ∷
+    []
+
+-- every move there is on a board of at most two partitions
+abbrev pub lineMoves : List LineMove
+lineMoves = noBlock ∷ blockLog ∷ blockPartition 0 ∷ blockPartition 1 ∷ []
+
+abbrev pub benchMoves : List BenchMove
+benchMoves = end ∷ carry 0 ∷ carry 1 ∷ wait ∷ []
+
+-- whether the bench can complete in the rounds left, by trying every move: for each that the line may make it has one that it may make and that leads on
+unfoldable pub everyMove : Board → ℕ → Position → Bool
+everyMove b zero p = completed p
+everyMove b (suc rounds) p =
+    all (λ (line : LineMove). not (lineMay p line) || isFound (find (λ (bench : BenchMove). benchMay b p line bench && everyMove b rounds (after p (round line bench))) benchMoves))
+    lineMoves
+
+abbrev pub forcedByEveryMove : Board → Bool
+forcedByEveryMove b = everyMove b (b .rounds) (start b)
+
+-- ---- a strategy
+
+-- it ends the run if the log is not blocked, and else waits
+abbrev pub endsUnblocked : List Round → LineMove → BenchMove
+endsUnblocked seen noBlock = end
+endsUnblocked seen blockLog = wait
+endsUnblocked seen (blockPartition q) = end
