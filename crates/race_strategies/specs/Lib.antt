@@ -1,0 +1,2 @@
+-- Definitions of the crate race_strategies.
+pub mod WhoWins
