@@ -1,0 +1,3 @@
+-- Definitions of the crate race_lines.
+pub mod Limits
+pub mod Lines
