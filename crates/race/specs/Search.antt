@@ -26,17 +26,18 @@ canForce zero until left blocks = false
 canForce (suc rounds) until left blocks =
     ltb 0 until && (canServe rounds left blocks && (eqb blocks 0 || canForce rounds (until - 1) left (blocks - 1)))
 
--- a board without partitions, or with a number above its limit
-abbrev pub outside : Board → Bool
-outside board =
-    ltb (board .partitions) 1
-    || ltb partitionsMax (board .partitions)
-    || ltb countMax (board .timeout)
-    || ltb countMax (board .rounds)
-    || ltb countMax (board .blocks)
+-- "1 to 6 partitions, and 0 to 12 each of rounds until its timeout, rounds in all and blocks"
+abbrev pub inside : Board → Bool
+inside board =
+    leb 1 (board .partitions)
+    && leb (board .partitions) partitionsMax
+    && leb (board .timeout) countMax
+    && leb (board .rounds) countMax
+    && leb (board .blocks) countMax
 
 -- "The answer says whether the bench can force a completed commit within the rounds"; "Turned away: 30, a board outside these numbers."
 abbrev pub raceAnswer : Board → RaceAnswer
 raceAnswer board =
-    cond (outside board) (Refused invalidBoard)
+    cond (inside board)
     (cond (canForce (board .rounds) (board .timeout) (board .partitions) (board .blocks)) Forced NotForced)
+    (Refused invalidBoard)

@@ -1,6 +1,6 @@
 // Who wins the race of request 14 of document 02: whether the bench can force a completed commit on a board, whatever the line blocks.
 ghost use mathlib.Core.Path.{_≡_};
-ghost use Rattle.race.specs.Search.{leftAfterBlock, canServe, canForce, outside, raceAnswer};
+ghost use Rattle.race.specs.Search.{leftAfterBlock, canServe, canForce, inside, raceAnswer};
 
 // The limits and the refusal of specs/Limits.antt, under the same names.
 pub const PARTITIONS_MAX: u64 = 6;
@@ -69,22 +69,22 @@ fn can_force(rounds: u64, until: u64, left: u64, blocks: u64) -> bool
     can_force(rounds - 1, until - 1, left, blocks - 1)
 }
 
-// Whether a board is outside the numbers of document 02.
-fn outside(board: Board) -> bool
-    ensures { λ r. ⌜ r ≡ outside board ⌝ }
+// Whether a board has the numbers of document 02.
+fn inside(board: Board) -> bool
+    ensures { λ r. ⌜ r ≡ inside board ⌝ }
 {
-    (board.partitions < 1)
-        | (PARTITIONS_MAX < board.partitions)
-        | (COUNT_MAX < board.timeout)
-        | (COUNT_MAX < board.rounds)
-        | (COUNT_MAX < board.blocks)
+    (1 <= board.partitions)
+        & (board.partitions <= PARTITIONS_MAX)
+        & (board.timeout <= COUNT_MAX)
+        & (board.rounds <= COUNT_MAX)
+        & (board.blocks <= COUNT_MAX)
 }
 
 // The answer to a board of any numbers.
 pub fn race(board: Board) -> RaceAnswer
     ensures { λ r. ⌜ r ≡ raceAnswer board ⌝ }
 {
-    if outside(board) {
+    if !inside(board) {
         return RaceAnswer::Refused(INVALID_BOARD);
     }
     if can_force(board.rounds, board.timeout, board.partitions, board.blocks) {

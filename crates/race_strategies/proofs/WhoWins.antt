@@ -1,19 +1,19 @@
 -- Who wins a board: the meaning of its answer.
 use Prim.Native.Nat.{ℕ, zero, suc, _+_, _≤_, _<_}
 use mathlib.Core.Path.{_≡_, refl, sym, ap}
-use mathlib.Core.Bool.{Bool, true, false, cond, _&&_, _||_}
+use mathlib.Core.Bool.{Bool, true, false, cond, _&&_}
 use mathlib.Core.List.{List, [], _∷_}
 use mathlib.Core.Logic.{_↔_, _⊎_, inl, inr}
 use native.Mathlib.Omega.{arith}
-use lib.Dec.{ltb}
+use lib.Dec.{ltb, leb}
 use lib.ListN.{length}
-use borrow.Author.Tests.{ltb-true, ltb-false, le-ltb}
-use Rattle.numbers.proofs.Tests.{not-both, and-both}
+use borrow.Author.Tests.{ltb-true, ltb-false, le-leb, leb-true}
+use Rattle.numbers.proofs.Tests.{either, not-both, and-left, and-right, and-both}
 use Rattle.race.specs.declared.Board.{Board}
 use Rattle.race.specs.declared.RaceAnswer.the-variants.{Forced, NotForced, Refused}
 use Rattle.race.specs.Limits.{partitionsMax, countMax, invalidBoard, Inside}
 use Rattle.race.specs.Game.{Round, position, lineMay, benchMay, legal, LinePlays, BenchPlays, LineStrategy, BenchStrategy, BenchForces, LinePrevents}
-use Rattle.race.specs.Search.{canForce, outside, raceAnswer}
+use Rattle.race.specs.Search.{canForce, inside, raceAnswer}
 use Rattle.race_strategies.specs.WhoWins.{withMoreBlocks, WhoWins}
 use Rattle.race_strategies.proofs.ClosedForm.{force-enough, force-needs}
 use Rattle.race_strategies.proofs.Bench.{bench-forces}
@@ -56,20 +56,119 @@ module _ (board : Board) (f : BenchForces board) (k : LinePrevents board) where
       let play = against (f .strategy) (k .strategy) (board .rounds) in
       not-both (k .never play (m .allowed) (m .line) (m .long)) (f .completes play (m .allowed) (m .bench) (m .long))
 
+-- ---- the limits
+
+module _ (board : Board) where
+  abbrev partitions-within : Bool
+  partitions-within = leb 1 (board .partitions) && leb (board .partitions) partitionsMax
+
+  abbrev timeout-within : Bool
+  timeout-within = partitions-within && leb (board .timeout) countMax
+
+  abbrev rounds-within : Bool
+  rounds-within = timeout-within && leb (board .rounds) countMax
+
+  inside-true : Inside board → inside board ≡ true
+  inside-true i =
+      rw (
+        le-leb 1 (board .partitions) (i .some-partition),
+        le-leb (board .partitions) partitionsMax (i .partitions),
+        le-leb (board .timeout) countMax (i .timeout),
+        le-leb (board .rounds) countMax (i .rounds),
+        le-leb (board .blocks) countMax (i .blocks),
+      )
+
+  true-inside : inside board ≡ true → Inside board
+  true-inside e =
+      let r = and-left rounds-within (leb (board .blocks) countMax) e in
+      let t = and-left timeout-within (leb (board .rounds) countMax) r in
+      let p = and-left partitions-within (leb (board .timeout) countMax) t in
+      record {
+        some-partition = leb-true 1 (board .partitions) (and-left (leb 1 (board .partitions)) (leb (board .partitions) partitionsMax) p);
+        partitions = leb-true (board .partitions) partitionsMax (and-right (leb 1 (board .partitions)) (leb (board .partitions) partitionsMax) p);
+        timeout = leb-true (board .timeout) countMax (and-right partitions-within (leb (board .timeout) countMax) t);
+        rounds = leb-true (board .rounds) countMax (and-right timeout-within (leb (board .rounds) countMax) r);
+        blocks = leb-true (board .blocks) countMax (and-right rounds-within (leb (board .blocks) countMax) e);
+      }
+
 -- ---- the answers
 
--- no two answers are the same
-answer-forced : (o f : Bool) → cond o (Refused invalidBoard) (cond f Forced NotForced) ≡ Forced → (o ≡ false) × (f ≡ true)
-answer-forced true f e = absurd (let z : _≡_ {A = ℕ} 0 1 = cc in omega arith)
-answer-forced false true e = (refl, refl)
-answer-forced false false e = absurd (let z : _≡_ {A = ℕ} 0 1 = cc in omega arith)
+-- which tests led to an answer
+answer-forced : (i f : Bool) → cond i (cond f Forced NotForced) (Refused invalidBoard) ≡ Forced → (i ≡ true) × (f ≡ true)
+answer-forced true true e = (refl, refl)
+answer-forced true false e = absurd (let z : _≡_ {A = ℕ} 0 1 = cc in omega arith)
+answer-forced false f e = absurd (let z : _≡_ {A = ℕ} 0 1 = cc in omega arith)
 
-answer-not-forced : (o f : Bool) → cond o (Refused invalidBoard) (cond f Forced NotForced) ≡ NotForced → f ≡ false
-answer-not-forced true f e = absurd (let z : _≡_ {A = ℕ} 0 1 = cc in omega arith)
-answer-not-forced false true e = absurd (let z : _≡_ {A = ℕ} 0 1 = cc in omega arith)
-answer-not-forced false false e = refl
+answer-not-forced : (i f : Bool) → cond i (cond f Forced NotForced) (Refused invalidBoard) ≡ NotForced → f ≡ false
+answer-not-forced true true e = absurd (let z : _≡_ {A = ℕ} 0 1 = cc in omega arith)
+answer-not-forced true false e = refl
+answer-not-forced false f e = absurd (let z : _≡_ {A = ℕ} 0 1 = cc in omega arith)
 
-answer-refused : (o f : Bool) → cond o (Refused invalidBoard) (cond f Forced NotForced) ≡ Refused invalidBoard → o ≡ true
-answer-refused true f e = refl
-answer-refused false true e = absurd (let z : _≡_ {A = ℕ} 0 1 = cc in omega arith)
-answer-refused false false e = absurd (let z : _≡_ {A = ℕ} 0 1 = cc in omega arith)
+answer-refused : (i f : Bool) → cond i (cond f Forced NotForced) (Refused invalidBoard) ≡ Refused invalidBoard → i ≡ false
+answer-refused true true e = absurd (let z : _≡_ {A = ℕ} 0 1 = cc in omega arith)
+answer-refused true false e = absurd (let z : _≡_ {A = ℕ} 0 1 = cc in omega arith)
+answer-refused false f e = refl
+
+module _ (board : Board) where
+  abbrev found : Bool
+  found = canForce (board .rounds) (board .timeout) (board .partitions) (board .blocks)
+
+  -- the bench wins in closed form
+  abbrev Enough : Type 0
+  Enough = (board .blocks < board .timeout) × (1 + board .partitions + board .blocks ≤ board .rounds)
+
+  found-enough : found ≡ true → Enough
+  found-enough = force-needs (board .rounds) (board .timeout) (board .partitions) (board .blocks)
+
+  enough-found : Enough → found ≡ true
+  enough-found h = force-enough (board .rounds) (board .timeout) (board .partitions) (board .blocks) (h .0) (h .1)
+
+  bench-wins : found ≡ true → BenchForces board
+  bench-wins e = let h = found-enough e in bench-forces board (h .0) (h .1)
+
+  line-wins : found ≡ false → LinePrevents board
+  line-wins e = line-prevents board late
+    where
+      late : board .blocks < board .timeout → board .rounds < 1 + board .partitions + board .blocks
+      late h =
+          either (ltb (board .rounds) (1 + board .partitions + board .blocks))
+          (λ t. ltb-true (board .rounds) (1 + board .partitions + board .blocks) t)
+          (λ t. not-both e (enough-found (h, ltb-false (board .rounds) (1 + board .partitions + board .blocks) t)))
+
+  -- what one side can bring about, the search finds: else the other side could prevent it
+  forced-found : BenchForces board → found ≡ true
+  forced-found f = either found (λ t. t) (λ t. absurd (one-winner board f (line-wins t)))
+
+  prevented-found : LinePrevents board → found ≡ false
+  prevented-found k = either found (λ t. absurd (one-winner board (bench-wins t) k)) (λ t. t)
+
+-- with fewer blocks a board stays inside the limits
+fewer-inside : (board : Board) (more : ℕ) → Inside (withMoreBlocks board more) → Inside board
+fewer-inside board more i =
+    let fewer = i .blocks in
+    record { some-partition = i .some-partition; partitions = i .partitions; timeout = i .timeout; rounds = i .rounds; blocks = omega arith }
+
+fewer-forced : (board : Board) (more : ℕ) → raceAnswer (withMoreBlocks board more) ≡ Forced → raceAnswer board ≡ Forced
+fewer-forced board more e =
+    let blocked = withMoreBlocks board more in
+    let a = answer-forced (inside blocked) (found blocked) e in
+    let h = found-enough blocked (a .1) in
+    rw (inside-true board (fewer-inside board more (true-inside blocked (a .0))), enough-found board (omega arith, omega arith))
+
+pub who-wins : (board : Board) → WhoWins board
+who-wins board =
+    record {
+      determined = either (found board) (λ t. inl (bench-wins board t)) (λ t. inr (line-wins board t));
+      one-winner = one-winner board;
+      forced = λ i.
+          (λ e. bench-wins board (answer-forced (inside board) (found board) e .1), λ f. rw (inside-true board i, forced-found board f));
+      not-forced = λ i.
+          (λ e. line-wins board (answer-not-forced (inside board) (found board) e), λ k. rw (inside-true board i, prevented-found board k));
+      turned-away = (
+        λ e i. not-both (answer-refused (inside board) (found board) e) (inside-true board i),
+        λ n. either (inside board) (λ t. absurd (n (true-inside board t))) (λ t. rw t),
+      );
+      more-blocks = fewer-forced board;
+      closed-form = λ i.
+          (λ e. found-enough board (answer-forced (inside board) (found board) e .1), λ h. rw (inside-true board i, enough-found board h));
+    }
