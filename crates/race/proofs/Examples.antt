@@ -1,12 +1,12 @@
 -- The examples of request 14 hold, by computation.
 use mathlib.Core.Path.{_≡_, refl}
-use mathlib.Core.Bool.{Bool, cond}
+use mathlib.Core.Bool.{cond}
 use mathlib.Core.List.{[], _∷_, map}
-use Rattle.search.specs.Search.{Each, all, find}
+use Rattle.search.specs.Search.{all, find}
 use Rattle.race.specs.declared.RaceAnswer.the-variants.{Forced, NotForced}
 use Rattle.race.specs.Game.{blockLog, noBlock, end, wait, BenchPlays}
 use Rattle.race.specs.Search.{canServe, canForce, raceAnswer}
-use Rattle.race.specs.Examples.{Play, played, plays, Answered, answered, smallBoards, otherBoards, everyMove, forcedByEveryMove, round, endsUnblocked}
+use Rattle.race.specs.Examples.{played, plays, Answered, answered, smallBoards, otherBoards, everyMove, forcedByEveryMove, Served, served, endings, servedByEveryMove, round, endsUnblocked}
 
 -- what is allowed, and what is completed
 pub plays-hold : map played plays ≡ plays
@@ -23,6 +23,12 @@ boards-hold = (refl, refl)
 pub every-move-holds : map (λ (x : Answered). answered (x .board) (cond (forcedByEveryMove (x .board)) Forced NotForced)) smallBoards ≡ smallBoards
 unfolding all find everyMove
 every-move-holds = refl
+
+-- once ended: the search, and the game
+pub endings-hold : (map (λ (x : Served). served (x .rounds) (x .left) (x .blocks) (canServe (x .rounds) (x .left) (x .blocks))) endings ≡ endings)
+    × (map (λ (x : Served). served (x .rounds) (x .left) (x .blocks) (servedByEveryMove x)) endings ≡ endings)
+unfolding canServe all find everyMove
+endings-hold = (refl, refl)
 
 -- the bench has seen the line's move of the round
 pub block-is-seen : BenchPlays endsUnblocked (round noBlock end ∷ round blockLog wait ∷ [])

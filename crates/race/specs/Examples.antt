@@ -6,7 +6,7 @@ use Rattle.search.specs.Search.{all, find, isFound}
 use Rattle.race.specs.declared.Board.{Board}
 use Rattle.race.specs.declared.RaceAnswer.{RaceAnswer}
 use Rattle.race.specs.declared.RaceAnswer.the-variants.{Forced, NotForced, Refused}
-use Rattle.race.specs.Game.{Position, start, completed, LineMove, noBlock, blockLog, blockPartition, BenchMove, end, carry, wait, lineMay, benchMay, Round, after, position, legal}
+use Rattle.race.specs.Game.{completed, LineMove, noBlock, blockLog, blockPartition, BenchMove, end, carry, wait, lineMay, Round, position, legal}
 
 abbrev pub board : ℕ → ℕ → ℕ → ℕ → Board
 board partitions timeout rounds blocks = record { partitions = partitions; timeout = timeout; rounds = rounds; blocks = blocks }
@@ -124,15 +124,50 @@ lineMoves = noBlock ∷ blockLog ∷ blockPartition 0 ∷ blockPartition 1 ∷ [
 abbrev pub benchMoves : List BenchMove
 benchMoves = end ∷ carry 0 ∷ carry 1 ∷ wait ∷ []
 
--- whether the bench can complete in the rounds left, by trying every move: for each that the line may make it has one that it may make and that leads on
-unfoldable pub everyMove : Board → ℕ → Position → Bool
-everyMove b zero p = completed p
-everyMove b (suc rounds) p =
-    all (λ (line : LineMove). not (lineMay p line) || isFound (find (λ (bench : BenchMove). benchMay b p line bench && everyMove b rounds (after p (round line bench))) benchMoves))
+-- whether the bench can complete a play in the rounds left, by trying every move: for each that the line may make it has one that is legal and leads on
+unfoldable pub everyMove : Board → ℕ → List Round → Bool
+everyMove b zero seen = completed (position b seen)
+everyMove b (suc rounds) seen =
+    all (λ (line : LineMove).
+    not (lineMay (position b seen) line)
+    || isFound (find (λ (bench : BenchMove). legal b (round line bench ∷ seen) && everyMove b rounds (round line bench ∷ seen)) benchMoves))
     lineMoves
 
 abbrev pub forcedByEveryMove : Board → Bool
-forcedByEveryMove b = everyMove b (b .rounds) (start b)
+forcedByEveryMove b = everyMove b (b .rounds) []
+
+-- ---- once ended
+
+-- the rounds, partitions and blocks left behind an end, and whether the bench can serve the partitions
+pub record Served : Type 0 where
+  pub rounds : ℕ
+  pub left : ℕ
+  pub blocks : ℕ
+  pub answer : Bool
+
+abbrev pub served : ℕ → ℕ → ℕ → Bool → Served
+served rounds left blocks answer = record { rounds = rounds; left = left; blocks = blocks; answer = answer }
+
+-- each block takes a round where the line keeps it for the last partition left
+abbrev pub endings : List Served
+endings =
+    served 0 0 2 true ∷
+    served 0 1 0 false ∷
+    served 1 1 0 true ∷
+    served 1 1 1 false ∷
+    served 2 1 1 true ∷
+    served 2 1 2 false ∷
+    served 3 1 2 true ∷
+    served 1 2 0 false ∷
+    served 2 2 0 true ∷
+    served 2 2 1 false ∷
+    served 3 2 1 true ∷
+    served 3 2 2 false ∷
+    []
+
+-- the same by every move, on a board whose run was ended in its first round
+abbrev pub servedByEveryMove : Served → Bool
+servedByEveryMove x = everyMove (board (x .left) 1 (suc (x .rounds)) (x .blocks)) (x .rounds) (round noBlock end ∷ [])
 
 -- ---- a strategy
 

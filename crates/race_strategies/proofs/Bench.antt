@@ -14,18 +14,20 @@ use Rattle.race.specs.Game.{Position, completed, LineMove, noBlock, blockLog, b
 use Rattle.race_strategies.proofs.Plays.{round-is, legal-before, line-allowed}
 use Rattle.race_strategies.proofs.Left.{left, all-left, one-fewer, none-left, first, first-left}
 
--- what holds of the play for as long as the bench wins it
-abbrev Ahead : Board → Bool → List Bool → ℕ → ℕ → Type 0
-Ahead board true unserved round blocks = left unserved ≤ board .rounds - round - blocks
-Ahead board false unserved round blocks = (blocks + round < board .timeout) × (1 + left unserved + blocks + round ≤ board .rounds)
+-- what holds of a play by the strategy: rounds enough for the partitions and blocks left and, before the end, for the end too
+abbrev BenchInvariant : Board → Bool → List Bool → ℕ → ℕ → Type 0
+BenchInvariant board true unserved round blocks = left unserved ≤ board .rounds - round - blocks
+BenchInvariant board false unserved round blocks = (blocks + round < board .timeout) × (1 + left unserved + blocks + round ≤ board .rounds)
 
-abbrev AheadAt : Board → Position → Type 0
-AheadAt board p = Ahead board (p .ended) (p .unserved) (p .round) (p .blocks)
+abbrev BenchInvariantAt : Board → Position → Type 0
+BenchInvariantAt board p = BenchInvariant board (p .ended) (p .unserved) (p .round) (p .blocks)
 
+-- the move that leads on
 abbrev intended : Bool → List Bool → BenchMove
 intended true unserved = carry (first unserved)
 intended false unserved = end
 
+-- it is made where it is allowed
 abbrev reply : Board → Position → LineMove → BenchMove
 reply board p line = let m = intended (p .ended) (p .unserved) in cond (benchMay board p line m) m wait
 
@@ -38,8 +40,8 @@ module _ (board : Board) (l : List Bool) (n b : ℕ) where
   at ended = record { unserved = l; ended = ended; round = n; blocks = b }
 
   -- the bench waits because of a block, or because all is served
-  waits-ended : (line : LineMove) → AheadAt board (at true) → lineMay (at true) line ≡ true → benchMay board (at true) line (carry (first l)) ≡ false
-      → AheadAt board (after (at true) (record { line = line; bench = wait }))
+  waits-ended : (line : LineMove) → BenchInvariantAt board (at true) → lineMay (at true) line ≡ true → benchMay board (at true) line (carry (first l)) ≡ false
+      → BenchInvariantAt board (after (at true) (record { line = line; bench = wait }))
   waits-ended noBlock h may f = served (left l) refl
     where
       served : (k : ℕ) → left l ≡ k → left l ≤ board .rounds - (n + 1) - (b - 0)
@@ -48,37 +50,37 @@ module _ (board : Board) (l : List Bool) (n b : ℕ) where
   waits-ended blockLog h may f = omega (arith, ltb-true 0 b may)
   waits-ended (blockPartition q) h may f = omega (arith, ltb-true 0 b (and-left (ltb 0 b) (ltb q (length l)) may))
 
-  waits-open : (line : LineMove) → AheadAt board (at false) → lineMay (at false) line ≡ true → benchMay board (at false) line end ≡ false
-      → AheadAt board (after (at false) (record { line = line; bench = wait }))
+  waits-open : (line : LineMove) → BenchInvariantAt board (at false) → lineMay (at false) line ≡ true → benchMay board (at false) line end ≡ false
+      → BenchInvariantAt board (after (at false) (record { line = line; bench = wait }))
   waits-open noBlock h may f = absurd (omega (arith, ltb-false n (board .timeout) f))
   waits-open blockLog h may f = omega (arith, ltb-true 0 b may)
   waits-open (blockPartition q) h may f = absurd (omega (arith, ltb-false n (board .timeout) f))
 
-  ahead-round : (ended : Bool) (line : LineMove) → AheadAt board (at ended) → lineMay (at ended) line ≡ true
-      → AheadAt board (after (at ended) (record { line = line; bench = reply board (at ended) line }))
-  ahead-round true line h may =
-      by-cases (λ (m : BenchMove). AheadAt board (after (at true) (record { line = line; bench = m }))) (benchMay board (at true) line (carry (first l)))
+  bench-round : (ended : Bool) (line : LineMove) → BenchInvariantAt board (at ended) → lineMay (at ended) line ≡ true
+      → BenchInvariantAt board (after (at ended) (record { line = line; bench = reply board (at ended) line }))
+  bench-round true line h may =
+      by-cases (λ (m : BenchMove). BenchInvariantAt board (after (at true) (record { line = line; bench = m }))) (benchMay board (at true) line (carry (first l)))
       (λ e. omega (arith, one-fewer l (first l) (and-right (not (partitionBlocked line (first l))) (getD l (first l) false) e)))
       (waits-ended line h may)
-  ahead-round false line h may =
-      by-cases (λ (m : BenchMove). AheadAt board (after (at false) (record { line = line; bench = m }))) (benchMay board (at false) line end)
+  bench-round false line h may =
+      by-cases (λ (m : BenchMove). BenchInvariantAt board (after (at false) (record { line = line; bench = m }))) (benchMay board (at false) line end)
       (λ e. omega arith) (waits-open line h may)
 
   -- after the last round
-  ahead-last : (ended : Bool) → AheadAt board (at ended) → n ≡ board .rounds → completed (at ended) ≡ true
-  ahead-last true h e = none-left l (omega arith)
-  ahead-last false h e = absurd (omega arith)
+  bench-last : (ended : Bool) → BenchInvariantAt board (at ended) → n ≡ board .rounds → completed (at ended) ≡ true
+  bench-last true h e = none-left l (omega arith)
+  bench-last false h e = absurd (omega arith)
 
 module _ (board : Board) (in-time : board .blocks < board .timeout) (enough : 1 + board .partitions + board .blocks ≤ board .rounds) where
   abbrev endAndCarry : BenchStrategy
   endAndCarry play line = reply board (position board play) line
 
-  ahead : (play : List Round) → legal board play ≡ true → BenchPlays endAndCarry play → AheadAt board (position board play)
-  ahead [] ok by = omega (arith, all-left (board .partitions))
-  ahead (r ∷ play) ok by =
+  bench-invariant : (play : List Round) → legal board play ≡ true → BenchPlays endAndCarry play → BenchInvariantAt board (position board play)
+  bench-invariant [] ok by = omega (arith, all-left (board .partitions))
+  bench-invariant (r ∷ play) ok by =
       let p = position board play in
-      subst (λ (m : BenchMove). AheadAt board (after p (record { line = r .line; bench = m }))) (sym (by .1))
-      (ahead-round board (p .unserved) (p .round) (p .blocks) (p .ended) (r .line) (ahead play (legal-before board r play ok) (by .0)) (line-allowed board r play ok))
+      subst (λ (m : BenchMove). BenchInvariantAt board (after p (record { line = r .line; bench = m }))) (sym (by .1))
+      (bench-round board (p .unserved) (p .round) (p .blocks) (p .ended) (r .line) (bench-invariant play (legal-before board r play ok) (by .0)) (line-allowed board r play ok))
 
   pub bench-forces : BenchForces board
   bench-forces =
@@ -86,5 +88,5 @@ module _ (board : Board) (in-time : board .blocks < board .timeout) (enough : 1 
         strategy = endAndCarry;
         allowed = λ play ok by line may. reply-allowed board (position board play) line;
         completes = λ play ok by all. let p = position board play in
-            ahead-last board (p .unserved) (p .round) (p .blocks) (p .ended) (ahead play ok by) (omega (arith, round-is board play));
+            bench-last board (p .unserved) (p .round) (p .blocks) (p .ended) (bench-invariant play ok by) (omega (arith, round-is board play));
       }

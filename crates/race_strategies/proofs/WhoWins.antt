@@ -96,17 +96,17 @@ module _ (board : Board) where
 -- which tests led to an answer
 answer-forced : (i f : Bool) → cond i (cond f Forced NotForced) (Refused invalidBoard) ≡ Forced → (i ≡ true) × (f ≡ true)
 answer-forced true true e = (refl, refl)
-answer-forced true false e = absurd (let z : _≡_ {A = ℕ} 0 1 = cc in omega arith)
-answer-forced false f e = absurd (let z : _≡_ {A = ℕ} 0 1 = cc in omega arith)
+answer-forced true false e = (cc, cc)
+answer-forced false f e = (cc, cc)
 
 answer-not-forced : (i f : Bool) → cond i (cond f Forced NotForced) (Refused invalidBoard) ≡ NotForced → f ≡ false
-answer-not-forced true true e = absurd (let z : _≡_ {A = ℕ} 0 1 = cc in omega arith)
+answer-not-forced true true e = cc
 answer-not-forced true false e = refl
-answer-not-forced false f e = absurd (let z : _≡_ {A = ℕ} 0 1 = cc in omega arith)
+answer-not-forced false f e = cc
 
 answer-refused : (i f : Bool) → cond i (cond f Forced NotForced) (Refused invalidBoard) ≡ Refused invalidBoard → i ≡ false
-answer-refused true true e = absurd (let z : _≡_ {A = ℕ} 0 1 = cc in omega arith)
-answer-refused true false e = absurd (let z : _≡_ {A = ℕ} 0 1 = cc in omega arith)
+answer-refused true true e = cc
+answer-refused true false e = cc
 answer-refused false f e = refl
 
 module _ (board : Board) where
