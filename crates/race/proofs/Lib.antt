@@ -1,3 +1,4 @@
 -- Laws of the crate race: a round of the search, and the examples.
 pub mod Search
-pub mod Examples
+pub mod Boards
+pub mod Plays

@@ -1,17 +1,11 @@
--- The examples of request 14 hold, by computation.
+-- The examples of boards hold, by computation.
 use mathlib.Core.Path.{_≡_, refl}
 use mathlib.Core.Bool.{cond}
-use mathlib.Core.List.{[], _∷_, map}
+use mathlib.Core.List.{map}
 use Rattle.search.specs.Search.{all, find}
 use Rattle.race.specs.declared.RaceAnswer.the-variants.{Forced, NotForced}
-use Rattle.race.specs.Game.{blockLog, noBlock, end, wait, BenchPlays}
 use Rattle.race.specs.Search.{canServe, canForce, raceAnswer}
-use Rattle.race.specs.Examples.{played, plays, Answered, answered, smallBoards, otherBoards, everyMove, forcedByEveryMove, Served, served, endings, servedByEveryMove, round, endsUnblocked}
-
--- what is allowed, and what is completed
-pub plays-hold : map played plays ≡ plays
-unfolding all
-plays-hold = refl
+use Rattle.race.specs.Examples.{Answered, answered, smallBoards, otherBoards, everyMove, forcedByEveryMove, Served, served, endings, servedByEveryMove}
 
 -- the search
 pub boards-hold : (map (λ (x : Answered). answered (x .board) (raceAnswer (x .board))) smallBoards ≡ smallBoards)
@@ -29,7 +23,3 @@ pub endings-hold : (map (λ (x : Served). served (x .rounds) (x .left) (x .block
     × (map (λ (x : Served). served (x .rounds) (x .left) (x .blocks) (servedByEveryMove x)) endings ≡ endings)
 unfolding canServe all find everyMove
 endings-hold = (refl, refl)
-
--- the bench has seen the line's move of the round
-pub block-is-seen : BenchPlays endsUnblocked (round noBlock end ∷ round blockLog wait ∷ [])
-block-is-seen = ((tt, refl), refl)
