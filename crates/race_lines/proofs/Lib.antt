@@ -1,1 +1,2 @@
 -- Laws of the crate race_lines.
+pub mod Lines
