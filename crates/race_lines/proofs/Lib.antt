@@ -1,2 +1,3 @@
 -- Laws of the crate race_lines.
 pub mod Lines
+pub mod Examples

@@ -18,7 +18,7 @@ use Rattle.text.proofs.Lines.{line-wrote, length-line}
 use Rattle.fields.specs.Fields.{count, field}
 use Rattle.fields.specs.Numbers.{unsigned}
 use Rattle.race.specs.declared.RaceAnswer.the-variants.{Forced, NotForced}
-use Rattle.race_lines.specs.Limits.{answerMax}
+use Rattle.race_lines.specs.Limits.{answerFieldsMax, answerMax}
 use Rattle.race_lines.specs.Lines.{raceWord, boardOf, requestOf, answerFields, answerLine, replyLine, written, bytesAfter}
 use Rattle.race_lines.specs.declared.Request.{Request}
 use Rattle.race_lines.specs.declared.Request.the-variants.{Race, Unknown}
@@ -71,7 +71,7 @@ unfolding fields decimal decimalWithin
 not-forced-fields = refl
 
 -- the number of a refusal has at most three digits, behind its tab
-pub refusal-short : (n : ℕ) → n < 256 → length (fieldWritten (decimal n)) ≤ 4
+pub refusal-short : (n : ℕ) → n < 256 → length (fieldWritten (decimal n)) ≤ answerFieldsMax
 refusal-short n h = omega (arith, decimal-most 2 n (omega arith))
 
 -- ---- the line

@@ -4,15 +4,12 @@ use fields::Unsigned64;
 use race::Board;
 use race::RaceAnswer;
 ghost use mathlib.Core.Path.{_≡_};
-ghost use mathlib.Core.Bool.{_&&_};
-ghost use lib.Dec.{eqb};
-ghost use lib.ListN.{length};
 ghost use Prim.Native.Nat.{_+_, _≤_};
-ghost use Rattle.numbers.specs.Bytes.{same};
+ghost use lib.ListN.{length};
 ghost use Rattle.text.specs.Lines.{Wrote, fields as fieldsWritten};
-ghost use Rattle.fields.specs.Fields.{SplitInto, count, field};
-ghost use Rattle.race_lines.specs.Limits.{answerMax};
-ghost use Rattle.race_lines.specs.Lines.{raceWord, boardOf, requestOf, answerFields, answerLine, written, bytesAfter};
+ghost use Rattle.fields.specs.Fields.{SplitInto};
+ghost use Rattle.race_lines.specs.Limits.{answerFieldsMax, answerMax};
+ghost use Rattle.race_lines.specs.Lines.{boardOf, requestOf, answerFields, answerLine, written, bytesAfter};
 
 // The limit of specs/Limits.antt, under the same name.
 pub const ANSWER_MAX: usize = 9;
@@ -64,8 +61,8 @@ pub fn parse(line: &[u8]) -> Request
 
 // Writes the fields of an answer.
 fn write_answer(answer: RaceAnswer, out: &mut [u8], at: usize) -> usize
-    requires { ⌜ at + 4 ≤ length (now out) ⌝ }
-    ensures { λ next. ⌜ Wrote (fieldsWritten (answerFields answer)) (now (out .entry)) at next (now (out .exit)) × (next ≤ at + 4) ⌝ }
+    requires { ⌜ at + answerFieldsMax ≤ length (now out) ⌝ }
+    ensures { λ next. ⌜ Wrote (fieldsWritten (answerFields answer)) (now (out .entry)) at next (now (out .exit)) × (next ≤ at + answerFieldsMax) ⌝ }
 {
     match answer {
         RaceAnswer::Forced => text::write_bytes(out, at, b"\t0\t1"),
