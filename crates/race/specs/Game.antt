@@ -1,5 +1,5 @@
 -- The game of request 14 of document 02, from its words and not from the search: the positions, the moves of both sides, the plays, and what each side can bring about.
--- The line is the network between the server and its partitions; the bench is the side that wants the commit.
+-- The line and the bench are the document's words: the network, which blocks, and the rig with its server, which wants the commit.
 use Prim.Native.Nat.{ℕ, _+_, _-_}
 use mathlib.Core.Path.{_≡_}
 use mathlib.Core.Bool.{Bool, true, false, not, _&&_}

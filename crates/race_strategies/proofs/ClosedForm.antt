@@ -1,31 +1,28 @@
 -- What the search finds, without a search: a round for the end, one for each partition and one for each block.
 use Prim.Native.Nat.{ℕ, zero, suc, _+_, _-_, _≤_, _<_}
 use mathlib.Core.Path.{_≡_, refl}
-use mathlib.Core.Bool.{Bool, true, false, _&&_, _||_}
+use mathlib.Core.Bool.{true, _&&_, _||_}
 use native.Mathlib.Omega.{arith}
 use lib.Dec.{eqb, ltb, leb}
 use borrow.Author.Tests.{leb-true, leb-false, ltb-true, lt-ltb, eqb-true, eqb-false, eq-eqb}
-use Rattle.numbers.proofs.Tests.{by-cases, not-both, and-left, and-right, and-both, or-either}
+use Rattle.numbers.proofs.Tests.{by-cases, either, not-both, and-left, and-right, and-both, or-either}
 use Rattle.race.specs.Search.{leftAfterBlock, canServe, canForce}
-
--- a disjunction passes whose right side passes where the left fails
-or-else : (a b : Bool) → (a ≡ false → b ≡ true) → (a || b) ≡ true
-or-else true b f = refl
-or-else false b f = f refl
 
 -- each partition takes a round, and each block takes one, while a partition is left
 pub serve-enough : (rounds left blocks : ℕ) → left ≤ rounds - blocks → canServe rounds left blocks ≡ true
 unfolding canServe
 serve-enough zero left blocks h = eq-eqb left 0 (omega arith)
 serve-enough (suc rounds) left blocks h =
-    or-else (eqb left 0) (canServe rounds (left - 1) blocks && (eqb blocks 0 || canServe rounds (leftAfterBlock left) (blocks - 1))) λ n.
+    either (eqb left 0) (λ none. rw none) λ n.
     let some-left : left ≡ 0 → ⊥ = eqb-false left 0 n in
-    and-both (canServe rounds (left - 1) blocks) (eqb blocks 0 || canServe rounds (leftAfterBlock left) (blocks - 1))
+    rw n
+    (and-both (canServe rounds (left - 1) blocks) (eqb blocks 0 || canServe rounds (leftAfterBlock left) (blocks - 1))
     (serve-enough rounds (left - 1) blocks (omega arith))
-    (or-else (eqb blocks 0) (canServe rounds (leftAfterBlock left) (blocks - 1)) λ m.
+    (either (eqb blocks 0) (λ none. rw none) λ m.
     let some-blocks : blocks ≡ 0 → ⊥ = eqb-false blocks 0 m in
-    serve-enough rounds (leftAfterBlock left) (blocks - 1)
-    (by-cases (λ (n : ℕ). n ≤ rounds - (blocks - 1)) (leb left 1) (λ t. omega arith) (λ t. omega arith)))
+    rw m
+    (serve-enough rounds (leftAfterBlock left) (blocks - 1)
+    (by-cases (λ (n : ℕ). n ≤ rounds - (blocks - 1)) (leb left 1) (λ t. omega arith) (λ t. omega arith)))))
 
 pub serve-needs : (rounds left blocks : ℕ) → canServe rounds left blocks ≡ true → left ≤ rounds - blocks
 unfolding canServe
@@ -53,9 +50,9 @@ force-enough (suc rounds) until left blocks u h =
     (lt-ltb 0 until (omega arith))
     (and-both (canServe rounds left blocks) (eqb blocks 0 || canForce rounds (until - 1) left (blocks - 1))
     (serve-enough rounds left blocks (omega arith))
-    (or-else (eqb blocks 0) (canForce rounds (until - 1) left (blocks - 1)) λ m.
+    (either (eqb blocks 0) (λ none. rw none) λ m.
     let some-blocks : blocks ≡ 0 → ⊥ = eqb-false blocks 0 m in
-    force-enough rounds (until - 1) left (blocks - 1) (omega arith) (omega arith)))
+    rw m (force-enough rounds (until - 1) left (blocks - 1) (omega arith) (omega arith))))
 
 pub force-needs : (rounds until left blocks : ℕ) → canForce rounds until left blocks ≡ true → (blocks < until) × (1 + left + blocks ≤ rounds)
 unfolding canForce
