@@ -171,8 +171,12 @@ servedByEveryMove x = everyMove (board (x .left) 1 (suc (x .rounds)) (x .blocks)
 
 -- ---- a strategy
 
--- it ends the run if the log is not blocked, and else waits
-abbrev pub endsUnblocked : List Round → LineMove → BenchMove
-endsUnblocked seen noBlock = end
-endsUnblocked seen blockLog = wait
-endsUnblocked seen (blockPartition q) = end
+-- it ends the run in the first round where the log is not blocked, and then carries to partition 1 where partition 0 is blocked
+abbrev pub avoidsBlocks : List Round → LineMove → BenchMove
+avoidsBlocks [] blockLog = wait
+avoidsBlocks [] noBlock = end
+avoidsBlocks [] (blockPartition q) = end
+avoidsBlocks (r ∷ seen) (blockPartition zero) = carry 1
+avoidsBlocks (r ∷ seen) (blockPartition (suc q)) = carry 0
+avoidsBlocks (r ∷ seen) blockLog = carry 0
+avoidsBlocks (r ∷ seen) noBlock = carry 0
