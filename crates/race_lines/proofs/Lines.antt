@@ -1,9 +1,8 @@
 -- Laws of the lines of `rigrace`: what a line asks by what was read of each field, and what is written of an answer.
 use Prim.Native.Nat.{ℕ, _≤_, _<_}
-use Prim.Native.Char.{code}
 use mathlib.Core.Path.{_≡_, refl}
 use mathlib.Core.Bool.{true, false}
-use mathlib.Core.List.{List, [], _∷_}
+use mathlib.Core.List.{List}
 use mathlib.Core.Option.{none, some}
 use native.Mathlib.Omega.{arith}
 use borrow.Author.Tests.{eq-eqb, ne-eqb, lt-ltb, le-ltb}
@@ -14,7 +13,6 @@ use Rattle.numbers.specs.Bytes.{same}
 use Rattle.text.specs.Decimal.{decimalWithin, decimal}
 use Rattle.text.specs.Lines.{field as fieldWritten, fields, line, Wrote}
 use Rattle.text.proofs.Decimal.{decimal-most}
-use Rattle.text.proofs.Lines.{line-wrote, length-line}
 use Rattle.fields.specs.Fields.{count, field}
 use Rattle.fields.specs.Numbers.{unsigned}
 use Rattle.race.specs.declared.RaceAnswer.the-variants.{Forced, NotForced}
@@ -79,14 +77,6 @@ refusal-short n h = omega (arith, decimal-most 2 n (omega arith))
 pub unknown-line : answerLine Unknown ≡ ascii "?\t-\n"
 unfolding line fields
 unknown-line = refl
-
--- a word, its fields and a line feed, where it is known that the last byte lies in the buffer
-pub line-behind : (word : List ℕ) (fs : List (List ℕ)) (s : List ℕ) (at : ℕ) {next last end : ℕ} {t u v : List ℕ} → Wrote word s at next t
-    → Wrote (fields fs) t next last u
-    → Wrote (code "\n" ∷ []) u last end v
-    → end ≤ length s
-    → Wrote (line word fs) s at end v
-line-behind word fs s at w f e h = line-wrote word fs s at (omega (arith, length-line word fs, w .0, f .0, e .0)) w f e
 
 -- ---- in a lent buffer
 

@@ -26,6 +26,7 @@ abbrev against : BenchStrategy → LineStrategy → ℕ → List Round
 against s t zero = []
 against s t (suc n) = let play = against s t n in record { line = t play; bench = s play (t play) } ∷ play
 
+-- it is legal, by both strategies, and of so many rounds
 record Met (board : Board) (s : BenchStrategy) (t : LineStrategy) (n : ℕ) : Type 0 where
   allowed : legal board (against s t n) ≡ true
   bench : BenchPlays s (against s t n)
@@ -113,7 +114,7 @@ module _ (board : Board) where
   abbrev found : Bool
   found = canForce (board .rounds) (board .timeout) (board .partitions) (board .blocks)
 
-  -- the bench wins in closed form
+  -- what the bench needs, in closed form
   abbrev Enough : Type 0
   Enough = (board .blocks < board .timeout) × (1 + board .partitions + board .blocks ≤ board .rounds)
 

@@ -8,12 +8,14 @@ use Rattle.race.specs.Limits.{invalidBoard, Inside}
 use Rattle.race.specs.Game.{BenchForces, LinePrevents}
 use Rattle.race.specs.Search.{raceAnswer}
 
+-- the same board, with more blocks
 abbrev pub withMoreBlocks : Board → ℕ → Board
 withMoreBlocks board more =
     record { partitions = board .partitions; timeout = board .timeout; rounds = board .rounds; blocks = board .blocks + more }
 
+-- a board of any numbers, and its answer
 pub record WhoWins (board : Board) : Type 0 where
-  -- a board of any numbers is won by one side, and not by both
+  -- it is won by one side, and not by both
   pub determined : BenchForces board ⊎ LinePrevents board
   pub one-winner : BenchForces board → LinePrevents board → ⊥
   -- "The answer says whether the bench can force a completed commit within the rounds, proved against every play of both sides"

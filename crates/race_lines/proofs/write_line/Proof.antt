@@ -1,9 +1,10 @@
 -- `race_lines::write_line` meets its contract.
 use borrow.Author.Needs.{needs}
 use native.Mathlib.Omega.{arith}
+use Rattle.text.proofs.Lines.{line-wrote, length-line}
 use Rattle.race.specs.Search.{raceAnswer}
 use Rattle.race_lines.specs.Lines.{raceWord, answerFields}
-use Rattle.race_lines.proofs.Lines.{unknown-line, line-behind}
+use Rattle.race_lines.proofs.Lines.{unknown-line}
 use Rattle.race_lines.proofs.write_line.Statement.{statement}
 use Rattle.race_lines.proofs.write_line.Tie as tie
 
@@ -48,9 +49,11 @@ returns c =
     let w = r .before .before .before in
     let q = w .before .before .before .before in
     let s = q .before .before .before in
+    let fs = answerFields (raceAnswer (q .request .given .0 .0)) in
     let f = rw (r .race .ensures) at (v .write-answer .ensures .0) in (
       rw (q .request .given .1)
-          (line-behind raceWord (answerFields (raceAnswer (q .request .given .0 .0))) (s .args .out .now) 0 (w .write-bytes .ensures) f (e .write-bytes2 .ensures) (omega (arith, e .write-bytes2 .ensures .0, v .write-answer .ensures .1, w .write-bytes .ensures .0, s .pre))),
+          (line-wrote raceWord fs (s .args .out .now) 0 (omega (arith, length-line raceWord fs, w .write-bytes .ensures .0, f .0, v .write-answer .ensures .1, s .pre))
+          (w .write-bytes .ensures) f (e .write-bytes2 .ensures)),
       omega (arith, e .write-bytes2 .ensures .0, v .write-answer .ensures .1, w .write-bytes .ensures .0),
     )
 
