@@ -1,4 +1,6 @@
 // What a cut of a session's log leads to: the log is opened at the length left, and all that is left to carry is carried.
+#![tactic(auto)]
+
 ghost use Rattle.std.specs.Prelude.{◌≡◌, []};
 ghost use Rattle.coordinator.specs.Order.{order};
 ghost use Rattle.session.specs.Memory.{memory};

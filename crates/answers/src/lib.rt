@@ -1,4 +1,6 @@
 // The answers of the calls, as document 01 has them: done with its results, or refused with a number; and how many places an answer can name; the first refusal of tests in order.
+#![tactic(auto)]
+
 ghost use Rattle.std.specs.Prelude.{◌≡◌};
 ghost use Rattle.answers.specs.Refusals.{or_refuse};
 
@@ -49,14 +51,14 @@ pub const STALE_COORDINATOR: u8 = 21;
 pub const NO_PARTITION_ROOM: u8 = 22;
 
 // Add, End, Flush, Ack and Marker.
-#[derive(Drop)]
+#[derive(Clone, Copy)]
 pub enum Answer {
     Done,
     Refused(u8),
 }
 
 // An opening; a bad log is refusal 6 with the offset of its first bad frame.
-#[derive(Drop)]
+#[derive(Clone, Copy)]
 pub enum OpenAnswer {
     Opened,
     BadLog(usize),
@@ -64,7 +66,7 @@ pub enum OpenAnswer {
 }
 
 // Init: the pid and epoch of the producer, or that its transaction is being aborted.
-#[derive(Drop)]
+#[derive(Clone, Copy)]
 pub enum InitAnswer {
     Given(i64, i16),
     Aborting,
@@ -72,7 +74,7 @@ pub enum InitAnswer {
 }
 
 // Tick: the place that was aborted, or that none was due.
-#[derive(Drop)]
+#[derive(Clone, Copy)]
 pub enum TickAnswer {
     Aborted(usize),
     NoneDue,
@@ -80,7 +82,7 @@ pub enum TickAnswer {
 }
 
 // Order: what an order carries, with the coordinator's epoch; or that there is none to give.
-#[derive(Drop)]
+#[derive(Clone, Copy)]
 pub enum OrderAnswer {
     Order {
         place: usize,
@@ -94,14 +96,14 @@ pub enum OrderAnswer {
 }
 
 // Produce: the offset of the entry.
-#[derive(Drop)]
+#[derive(Clone, Copy)]
 pub enum ProduceAnswer {
     Written(usize),
     Refused(u8),
 }
 
 // Read: how many payloads were copied, and the next offset.
-#[derive(Drop)]
+#[derive(Clone, Copy)]
 pub enum ReadAnswer {
     Copied(usize, usize),
     Refused(u8),

@@ -1,4 +1,6 @@
 // What the benchmark of bench/ calls: functions for a program in Rust, on numbers and slices, that make the calls of document 01 many times.
+#![tactic(auto)]
+
 use record::{Record, Status};
 
 // Makes the calls of a script and notes their answers.

@@ -1,4 +1,6 @@
 // Produce and Marker made many times, from a given state on, with the names, pids and places of all ids in turn. Each function answers a sum of what was answered.
+#![tactic(auto)]
+
 use bench_server::Call;
 use coordinator::Coordinator;
 use partition::Partition;

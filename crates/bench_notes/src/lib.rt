@@ -1,4 +1,6 @@
 // The numbers of a script's calls, and those that are noted of their answers.
+#![tactic(auto)]
+
 use bench_server::{Call, Performed};
 
 // The numbers of a call in a script, of which the last two are not used, and those that are noted of its answer.

@@ -1,4 +1,6 @@
 // One call made many times, from a given state on: with the names, pids and places of all ids in turn, or with times and lengths that rise by one. Each function answers a sum of what was answered.
+#![tactic(auto)]
+
 use bench_server::{Call, Server};
 use coordinator::Coordinator;
 use partition::Partition;

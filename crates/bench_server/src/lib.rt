@@ -1,4 +1,6 @@
 // The calls of document 01 with their arguments as numbers, each made on a coordinator and one partition.
+#![tactic(auto)]
+
 use bench_answers::Outcome;
 use coordinator::Coordinator;
 use partition::Partition;
@@ -36,7 +38,7 @@ pub const HELD: u64 = 12;
 pub const UNKNOWN: u64 = 99;
 
 // A call: its kind, the bytes of the log and the words that it is lent, the part of the names that is its name, and its arguments in document 01's order.
-#[derive(Drop)]
+#[derive(Clone, Copy)]
 pub struct Call {
     pub kind: u64,
     pub bytes: usize,
@@ -51,14 +53,14 @@ pub struct Call {
 }
 
 // A coordinator and one partition.
-#[derive(Drop)]
+#[derive(Clone, Copy)]
 pub struct Server {
     pub coordinator: Coordinator,
     pub partition: Partition,
 }
 
 // A call that was made: the state after it, and its answer.
-#[derive(Drop)]
+#[derive(Clone, Copy)]
 pub struct Performed {
     pub server: Server,
     pub outcome: Outcome,

@@ -1,4 +1,6 @@
 // What calls made many times have in common: sums of their answers, and names and numbers in turn.
+#![tactic(auto)]
+
 ghost use Rattle.std.specs.Prelude.{◌≤◌};
 
 use answers::Answer;

@@ -1,4 +1,6 @@
 // Sets of positions 0 to 63, held in a u64.
+#![tactic(auto)]
+
 ghost use Rattle.std.specs.Prelude.{◌≡◌};
 ghost use Rattle.bits.specs.Bits.{member, insert, intersection, difference, subset, lowest, count};
 

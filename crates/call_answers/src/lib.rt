@@ -1,4 +1,6 @@
 // The answers of a call script, written to standard output: the word of a line, the number and the results of a call, and what a state holds, each behind a tab.
+#![tactic(auto)]
+
 mod stores;
 
 use answers::{Answer, InitAnswer, OpenAnswer, OrderAnswer, ProduceAnswer, ReadAnswer, TickAnswer};

@@ -1,10 +1,12 @@
 // The lines of a call script: the fields of a line, the numbers that they write, and which line it is by its word and the kinds of its fields.
+#![tactic(auto)]
+
 ghost use Rattle.std.specs.Prelude.{◌≤◌, ◌<◌, length};
 
 use fields::Number;
 
 // Which line it is.
-#[derive(Drop)]
+#[derive(Clone, Copy)]
 pub enum Kind {
     Blank,
     Catalogue,

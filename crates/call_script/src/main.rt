@@ -1,4 +1,6 @@
 // A program that makes the calls of a script, one for each line, on slices of its stores, and writes their answers; tools/calls.py says how a line is written.
+#![tactic(auto)]
+
 use input_lines::Step;
 use script_state::State;
 

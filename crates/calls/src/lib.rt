@@ -1,4 +1,6 @@
 // Which function meets which case of `Call`, the calls of document 01: one function for each case, whose contract cites the case.
+#![tactic(auto)]
+
 ghost use Rattle.answers.specs.Answers.{reply, open_reply, init_reply, tick_reply, order_reply, produce_reply, read_reply};
 ghost use Rattle.coordinator.specs.Calls.{init_call, add_call, end_call, tick_call, ack_call};
 ghost use Rattle.server.specs.Calls.{call, produce_call, marker_call};

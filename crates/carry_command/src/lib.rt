@@ -1,4 +1,6 @@
 // The command `carry`: the order that Order gives is taken to its partition, and what that answers back.
+#![tactic(auto)]
+
 ghost use Rattle.coordinator.specs.Order.{order};
 ghost use Rattle.session.specs.Commands.{carried, delivers, acknowledges, PerformsOnLog, PerformsOnBoth};
 

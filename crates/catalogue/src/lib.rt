@@ -1,4 +1,6 @@
 // The catalogue of topics: read from a lent text, held by value.
+#![tactic(auto)]
+
 ghost use Rattle.std.specs.Prelude.{◌≡◌, ◌*◌, ◌^◌, ◌≤◌, ◌<◌, length, drop};
 ghost use Rattle.numbers.specs.Bytes.{same};
 ghost use Rattle.catalogue.specs.Limits.{topics_max, topic_name_max, partitions_max};
@@ -18,21 +20,21 @@ const TAB: u8 = b'\t';
 const LINE_FEED: u8 = b'\n';
 
 // Topic t's name is the sixteen bytes from 16 * t on, padded with zeros; `all` has the positions of all partitions.
-#[derive(Drop)]
+#[derive(Clone, Copy)]
 pub struct Catalogue {
     pub names: [u8; NAMES],
     pub all: u64,
 }
 
 // Refusal 0 with the catalogue, or 5 with a blank one.
-#[derive(Drop)]
+#[derive(Clone, Copy)]
 pub struct Parsed {
     pub refusal: u8,
     pub catalogue: Catalogue,
 }
 
 // What a text has at a place: a line with a name of that length and so many partitions, or something else.
-#[derive(Drop)]
+#[derive(Clone, Copy)]
 pub enum Line {
     Topic { name: usize, partitions: u64 },
     Bad,

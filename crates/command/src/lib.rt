@@ -1,4 +1,6 @@
 // A command line as a command: its word and its fields.
+#![tactic(auto)]
+
 ghost use Rattle.std.specs.Prelude.{◌≡◌, min, length, take};
 ghost use Rattle.numbers.specs.Bytes.{same};
 ghost use Rattle.fields.specs.Fields.{SplitInto};
@@ -30,14 +32,14 @@ const WORDS: [[u8; WORD_MAX]; COMMANDS + 1] = [
 ];
 
 // A word: the first bytes of an array.
-#[derive(Drop)]
+#[derive(Clone, Copy)]
 pub struct Word {
     pub letters: [u8; WORD_MAX],
     pub len: usize,
 }
 
 // The commands of document 01's listing, with `tick` and `left`; and a line that is none of them.
-#[derive(Drop)]
+#[derive(Clone, Copy)]
 pub enum Command {
     Init {
         name: Part,
@@ -86,7 +88,7 @@ pub enum Command {
 }
 
 // The numbers of an Add or End behind its name, or that one of them is missing or bad.
-#[derive(Drop)]
+#[derive(Clone, Copy)]
 enum Change {
     Is {
         pid: i64,

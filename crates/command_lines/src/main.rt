@@ -1,4 +1,6 @@
 // Reads command lines and writes what each is: its word, where its name stands, and the numbers of its fields, in lines of the listing's form.
+#![tactic(auto)]
+
 use command::Command;
 use fields::Part;
 use input_lines::Step;

@@ -1,4 +1,6 @@
 // The lines that the program every_cut prints: what is read after a cut, and the counts.
+#![tactic(auto)]
+
 ghost use Rattle.std.specs.Prelude.{◌≡◌, min};
 
 use command::Command;

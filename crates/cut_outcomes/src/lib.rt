@@ -1,4 +1,6 @@
 // How the transactions whose prepares were flushed before a cut have ended after it, and how many different ways were seen.
+#![tactic(auto)]
+
 ghost use Rattle.std.specs.Prelude.{◌≡◌, ◌<◌, length};
 ghost use Rattle.answers.specs.Limits.{places};
 ghost use Rattle.answers.specs.Refusals.{among};

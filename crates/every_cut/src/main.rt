@@ -1,4 +1,6 @@
 // A program that runs a script of command lines and then cuts its log at every byte from the flushed length to the end: a line for each length with what is read once all is carried, and how many outcomes there were.
+#![tactic(auto)]
+
 ghost use Rattle.std.specs.Prelude.{◌≡◌, min};
 ghost use Rattle.session.specs.Memory.{memory};
 ghost use Rattle.after_cut.specs.AfterCut.{outcome_at};

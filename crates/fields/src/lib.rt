@@ -1,4 +1,6 @@
 // The fields of a line, and what a field writes as a number.
+#![tactic(auto)]
+
 ghost use Rattle.std.specs.Prelude.{◌≡◌, min, pos, neg_ℤ, drop};
 ghost use Rattle.std.specs.Int.{w16, w32, w64};
 ghost use Rattle.fields.specs.Fields.{separates, bytes_of, SplitInto, part_in, field_in};
@@ -8,28 +10,28 @@ ghost use Rattle.fields.specs.Numbers.{natural_of, negated, has_sign, integer_of
 pub const FIELDS_MAX: usize = 7;
 
 // A part of a line: where it starts and how many bytes it has.
-#[derive(Drop)]
+#[derive(Clone, Copy)]
 pub struct Part {
     pub from: usize,
     pub len: usize,
 }
 
 // The fields of a line, of which the first `count` parts are set; a line of more than seven has count 8.
-#[derive(Drop)]
+#[derive(Clone, Copy)]
 pub struct Fields {
     pub parts: [Part; FIELDS_MAX],
     pub count: usize,
 }
 
 // What digits write, if that is a number of 64 bits.
-#[derive(Drop)]
+#[derive(Clone, Copy)]
 enum Digits {
     Value(u64),
     Bad,
 }
 
 // What a run of bytes writes: n, or −(n + 1), or no number within its limits.
-#[derive(Drop)]
+#[derive(Clone, Copy)]
 pub enum Number {
     Natural(u64),
     Negative(u64),
@@ -37,25 +39,25 @@ pub enum Number {
 }
 
 // A number of each type, or that a field writes none.
-#[derive(Drop)]
+#[derive(Clone, Copy)]
 pub enum Signed16 {
     Is(i16),
     Bad,
 }
 
-#[derive(Drop)]
+#[derive(Clone, Copy)]
 pub enum Signed32 {
     Is(i32),
     Bad,
 }
 
-#[derive(Drop)]
+#[derive(Clone, Copy)]
 pub enum Signed64 {
     Is(i64),
     Bad,
 }
 
-#[derive(Drop)]
+#[derive(Clone, Copy)]
 pub enum Unsigned64 {
     Is(u64),
     Bad,

@@ -1,10 +1,12 @@
 // Reads standard input by lines.
+#![tactic(auto)]
+
 use fields::Part;
 use libc::STDIN_FILENO;
 use lines::{Cursor, Last, Next};
 
 // A line and where the buffer is read on behind it; one that did not fit the buffer; a part that ends no line; or the end of the input.
-#[derive(Drop)]
+#[derive(Clone, Copy)]
 pub enum Step {
     Line {
         from: usize,

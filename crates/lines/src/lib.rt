@@ -1,4 +1,6 @@
 // The lines of a text that is read by parts into a buffer.
+#![tactic(auto)]
+
 ghost use Rattle.std.specs.Prelude.{◌≡◌, ◌+◌, ◌-◌, ◌≤◌, length, take, drop};
 ghost use Rattle.numbers.specs.Bytes.{overwrite};
 ghost use Rattle.lines.specs.Cursor.{line_end, pending_length, next_of, NextWithin, kept_cursor, kept_bytes, last_of, LastWithin};
@@ -6,14 +8,14 @@ ghost use Rattle.lines.specs.Cursor.{line_end, pending_length, next_of, NextWith
 const LINE_FEED: u8 = b'\n';
 
 // The place of a line feed, or that there is none.
-#[derive(Drop)]
+#[derive(Clone, Copy)]
 pub enum Found {
     At(usize),
     Nothing,
 }
 
 // The bytes of a buffer that are read and not yet handed on, from `from` to `end`. While `skipping`, they go on a line that did not fit the buffer.
-#[derive(Drop)]
+#[derive(Clone, Copy)]
 pub struct Cursor {
     pub from: usize,
     pub end: usize,
@@ -21,7 +23,7 @@ pub struct Cursor {
 }
 
 // The next line and what is left behind it; or one that did not fit; or that more has to be read.
-#[derive(Drop)]
+#[derive(Clone, Copy)]
 pub enum Next {
     Line {
         from: usize,
@@ -35,7 +37,7 @@ pub enum Next {
 }
 
 // What is left when the text has ended: a line without a line feed, or one that did not fit, or nothing.
-#[derive(Drop)]
+#[derive(Clone, Copy)]
 pub enum Last {
     Line { from: usize, len: usize },
     Long,

@@ -1,4 +1,6 @@
 // The answer lines of document 01's listing, written into a lent buffer.
+#![tactic(auto)]
+
 ghost use Rattle.std.specs.Prelude.{◌≡◌, ◌+◌, ◌*◌, ◌≤◌, map, [], ◌∷◌, length, take};
 ghost use Rattle.text.specs.Decimal.{decimal, signed_decimal};
 ghost use Rattle.text.specs.Lines.{field, fields, Wrote};
@@ -13,7 +15,7 @@ pub const FIELD_MAX: usize = 1 + text::DIGITS_MAX;
 pub const FIELDS_FIXED: usize = 7;
 
 // What stands behind the lengths: nothing, `-` for none, up to three numbers, or so many of the lent payloads.
-#[derive(Drop)]
+#[derive(Clone, Copy)]
 pub enum Results {
     Empty,
     Absent,
@@ -24,14 +26,14 @@ pub enum Results {
 }
 
 // A line that is no command has no number; any other has 0 or that of its refusal.
-#[derive(Drop)]
+#[derive(Clone, Copy)]
 pub enum Reply {
     Unknown,
     Answered { number: u8, results: Results },
 }
 
 // The place behind the line, or that the buffer is too short for some lines.
-#[derive(Drop)]
+#[derive(Clone, Copy)]
 pub enum Rendered {
     Next(usize),
     NoRoom,

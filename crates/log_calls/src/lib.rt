@@ -1,4 +1,6 @@
 // The lines with a call of the coordinator. Each is lent the bytes that its line says, and answers the coordinator's state after it.
+#![tactic(auto)]
+
 use answers::OpenAnswer;
 use call_lines::Kind;
 use coordinator::Coordinator;

@@ -1,4 +1,6 @@
 // open_log CATALOGUE LOG: prints the report of a log file.
+#![tactic(auto)]
+
 use libc::STDERR_FILENO;
 
 fn main() {

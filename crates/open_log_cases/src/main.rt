@@ -1,4 +1,6 @@
 // Prints the reports of four logs: a good one, one that is cut inside a frame, a damaged one, and one with names of 33 and 64 bytes.
+#![tactic(auto)]
+
 
 fn main() {
     let mut buffer = [0u8; log_files::LOG_ROOM];

@@ -1,4 +1,6 @@
 // The entries of a partition as published record batches, version 2, and back: whole, or by parts.
+#![tactic(auto)]
+
 ghost use mathlib.Core.Path.{◌≡◌};
 ghost use Prim.Native.Nat.{◌+◌, ◌*◌, ◌/◌, ◌^◌, ◌-◌, ◌<◌, ◌≤◌, min};
 ghost use lib.Dec.{leb};
@@ -22,14 +24,14 @@ pub const NO_OUTPUT_ROOM: u8 = 28;
 
 pub const OFFSETS: u64 = 0x8000_0000_0000_0000;
 
-#[derive(Drop)]
+#[derive(Clone, Copy)]
 pub enum WriteAnswer {
     // The length of the batches.
     Written(usize),
     Refused(u8),
 }
 
-#[derive(Drop)]
+#[derive(Clone, Copy)]
 pub enum ReadAnswer {
     // The number of entries, and their timestamp.
     Entries(usize, i64),
@@ -39,7 +41,7 @@ pub enum ReadAnswer {
 }
 
 // How many batches some bytes begin with, and where they end.
-#[derive(Drop)]
+#[derive(Clone, Copy)]
 pub struct Extent {
     pub count: usize,
     pub end: usize,

@@ -1,4 +1,6 @@
 // Prints the table of the status moves, a row for the status held and a column for the new one, each column 19 characters wide.
+#![tactic(auto)]
+
 use libc::STDOUT_FILENO;
 use record::Status;
 

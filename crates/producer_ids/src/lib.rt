@@ -1,4 +1,6 @@
 // Init: a producer takes a name and gets its pid and epoch.
+#![tactic(auto)]
+
 ghost use Rattle.std.specs.Prelude.{◌≡◌, true, false, cond, eqb, ltb, ◌+◌, ◌≤◌, ℤ, length};
 ghost use Rattle.std.specs.Int.{w16, w64};
 ghost use Rattle.numbers.specs.Signed.{signed_of};

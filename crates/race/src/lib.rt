@@ -1,4 +1,6 @@
 // Who wins the race of request 14 of document 02: whether the bench can force a completed commit on a board, whatever the line blocks.
+#![tactic(auto)]
+
 ghost use Rattle.std.specs.Prelude.{◌≡◌};
 ghost use Rattle.race.specs.Search.{left_after_block, can_serve, can_force, inside, race_answer};
 
@@ -10,7 +12,7 @@ pub const COUNT_MAX: u64 = 12;
 pub const INVALID_BOARD: u8 = 30;
 
 // "A board has one BEGIN with 1 to 6 partitions, and 0 to 12 each of rounds until its timeout, rounds in all and blocks."
-#[derive(Drop)]
+#[derive(Clone, Copy)]
 pub struct Board {
     pub partitions: u64,
     pub timeout: u64,
@@ -19,7 +21,7 @@ pub struct Board {
 }
 
 // Whether the bench can force a completed commit; or the board is refused.
-#[derive(Drop)]
+#[derive(Clone, Copy)]
 pub enum RaceAnswer {
     Forced,
     NotForced,

@@ -1,4 +1,6 @@
 // The answer of the program `rigrace` to a line: parsed, searched and written.
+#![tactic(auto)]
+
 ghost use Rattle.std.specs.Prelude.{◌≡◌, ◌+◌, ◌≤◌, length};
 ghost use Rattle.text.specs.Lines.{Wrote, fields as fieldsWritten};
 ghost use Rattle.fields.specs.Fields.{SplitInto};
@@ -12,7 +14,7 @@ use race::{Board, RaceAnswer};
 pub const ANSWER_MAX: usize = 9;
 
 // What a line asks: who wins a board, or nothing that this program knows.
-#[derive(Drop)]
+#[derive(Clone, Copy)]
 pub enum Request {
     Race(Board),
     Unknown,

@@ -1,4 +1,6 @@
 // One entry of a partition as a published record batch, version 2, and back.
+#![tactic(auto)]
+
 ghost use Rattle.std.specs.Prelude.{◌≡◌, cond, ◌&&◌, ◌+◌, ◌-◌, ◌≤◌, length, take};
 ghost use Rattle.std.specs.Int.{w64};
 ghost use Rattle.std.proofs.Common.{of_z};
@@ -56,7 +58,7 @@ const COORDINATOR_EPOCH_AT: usize = 73;
 const NO_SEQUENCE: u64 = 0xffff_ffff;
 
 // An entry, field by field.
-#[derive(Drop)]
+#[derive(Clone, Copy)]
 pub struct Entry {
     pub pid: u64,
     pub kind: u64,

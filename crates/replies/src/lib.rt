@@ -1,4 +1,6 @@
 // The answer of the program `rigrun` to a line: parsed, performed and rendered.
+#![tactic(auto)]
+
 ghost use Rattle.std.specs.Prelude.{◌≡◌, ◌+◌, ◌≤◌, leb, length};
 ghost use Rattle.text.specs.Lines.{Wrote};
 ghost use Rattle.session.specs.Memory.{memory};
@@ -13,7 +15,7 @@ use listing::{Rendered, Reply};
 use session::{Response, Session};
 
 // The session after a line, and how many bytes of the answer were written; none where the buffer is too short for some answers.
-#[derive(Drop)]
+#[derive(Clone, Copy)]
 pub struct Responded {
     pub session: Session,
     pub written: usize,

@@ -1,4 +1,6 @@
 // The program of request 14 of document 02: lines `race N T R B` in, answer lines out.
+#![tactic(auto)]
+
 use input_lines::Step;
 use libc::STDOUT_FILENO;
 

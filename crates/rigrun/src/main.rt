@@ -1,4 +1,6 @@
 // The program of document 01's listing: command lines in, answer lines out.
+#![tactic(auto)]
+
 use input_lines::Step;
 use libc::STDOUT_FILENO;
 use session::Session;

@@ -1,1 +1,3 @@
 // Computed examples of runs: the crate has definitions and theorems, and no functions.
+#![tactic(auto)]
+

@@ -1,1 +1,3 @@
 // Runs of the whole server, as definitions and theorems: the crate has no functions.
+#![tactic(auto)]
+

@@ -1,4 +1,6 @@
 // A session after a script of command lines, which is read from standard input; no answers are printed.
+#![tactic(auto)]
+
 use input_lines::Step;
 use session::Session;
 

@@ -1,4 +1,6 @@
 // The state of a call script, and what a line does to it and to the stores of the log and the partitions.
+#![tactic(auto)]
+
 ghost use Rattle.std.specs.Prelude.{◌<◌};
 
 use call_lines::Kind;
@@ -13,7 +15,7 @@ pub const WORDS_ROOM: usize = 256;
 pub const TEXT_ROOM: usize = 256;
 
 // The states of the coordinator and the partitions, and the catalogue's text: the first bytes of an array.
-#[derive(Drop)]
+#[derive(Clone, Copy)]
 pub struct State {
     pub coordinator: Coordinator,
     pub partitions: [Partition; PARTITIONS],

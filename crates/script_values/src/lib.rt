@@ -1,4 +1,6 @@
 // Values that a call script puts into a state, where calls would take too many lines to get there: an id's epoch, a producer's last sequence.
+#![tactic(auto)]
+
 use coordinator::Coordinator;
 use partition::Partition;
 

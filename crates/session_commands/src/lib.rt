@@ -1,4 +1,6 @@
 // The commands of a session: `put` and `read` at its partitions, `left` for a display, and all commands as one function.
+#![tactic(auto)]
+
 ghost use Rattle.std.specs.Prelude.{List, [], ◌∷◌, ℕ, pos};
 ghost use Rattle.answers.specs.Answers.{accepted};
 ghost use Rattle.coordinator.specs.Left.{left};

@@ -1,4 +1,6 @@
 // Words, shortest decimals and lines of tab-parted fields, written into a lent buffer.
+#![tactic(auto)]
+
 ghost use Rattle.std.specs.Prelude.{◌≡◌, ◌+◌, ◌≤◌, length, drop};
 ghost use Rattle.text.specs.Decimal.{decimal, signed_decimal};
 ghost use Rattle.text.specs.Limits.{digits_max};
@@ -8,7 +10,7 @@ ghost use Rattle.text.specs.Lines.{field, Wrote};
 pub const DIGITS_MAX: usize = 20;
 
 // A decimal at the end of an array, and where it starts.
-#[derive(Drop)]
+#[derive(Clone, Copy)]
 struct Spelled {
     digits: [u8; DIGITS_MAX],
     start: usize,

@@ -1,1 +1,3 @@
 // The theorem of timeouts, which holds in every run: the crate has no functions.
+#![tactic(auto)]
+

@@ -1,4 +1,6 @@
 // Prints catalogues and frames with what the proved functions say of them, to be compared with the stored output.
+#![tactic(auto)]
+
 mod show;
 
 use catalogue::Catalogue;

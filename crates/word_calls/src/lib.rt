@@ -1,4 +1,6 @@
 // The lines with a call of a partition. Each is lent the words that its line says, and answers the partition's state after it.
+#![tactic(auto)]
+
 use call_lines::Kind;
 use coordinator::Coordinator;
 use partition::Partition;

@@ -1,1 +1,3 @@
 // What the server could have written to a log, as definitions and theorems: the crate has no functions.
+#![tactic(auto)]
+
