@@ -1,0 +1,16 @@
+-- `catalogue::name_run`: what its loops keep. The loop's invariant: what was passed are name bytes, so the count goes on from i.
+use mathlib.Core.Path.{◌≡◌, refl, sym, ◌∙◌}
+use Prim.Native.Nat.{◌+◌, ◌≤◌, ◌-◌}
+use native.Mathlib.Omega.{arith}
+use lib.ListN.{length, drop}
+use borrow.Author.Rules.{rules}
+use borrow.Author.Tests.{not-true, not-false}
+use Rattle.catalogue.specs.Catalogue.{name_run}
+use Rattle.catalogue.proofs.Reading.{run-here, run_on, run_end}
+use Rattle.catalogue.proofs.name_run.Given as goal
+
+abbrev pub invariant-loop-i : goal.invariant-loop-i
+invariant-loop-i l = (l.at ≤ l.i) × (l.i ≤ length l.text) × (l.i + length (name_run (drop l.i l.text)) ≡ l.at + length (name_run (drop l.at l.text)))
+
+abbrev pub decreases-loop-i : goal.decreases-loop-i
+decreases-loop-i l = length l.text - l.i

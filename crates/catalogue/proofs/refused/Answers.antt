@@ -1,0 +1,6 @@
+-- `catalogue::refused` meets its contract.
+use borrow.Author.Rules.{rules}
+use Rattle.catalogue.proofs.refused.Goals as goal
+
+pub returns : goal.returns
+returns c = rw c.blank.ensures
