@@ -21,13 +21,14 @@ digit c = c.between.ensures ∙ ap (between 49 56) (ahead c.args.text.now c.args
 -- every test has passed
 parts : (c : Else-text-tab-ne-LINE_FEED) → LineParts (drop c.args.at c.args.text.now) c.name_run-n.result
 parts c =
+    let digit-here : c.between.result ≡ between 49 56 (get_or (drop c.args.at c.args.text.now) (c.name_run-n.result + 1) 0) = c.between.ensures ∙ ap (between 49 56) (ahead c.args.text.now c.args.at c.name_run-n.result 1) in
     let a = c.args in
     record {
       run = c.name_run-n.ensures;
       named = omega arith;
       short = omega arith;
       tab = get_or-drop a.at a.text.now c.name_run-n.result 0 ∙ c.if-text-tab-ne-TAB.false;
-      digit = sym (digit (c -- After-between)) ∙ not-false _ c.if-not-between.false;
+      digit = sym digit-here ∙ c.if-not-between.false;
       feed = sym (ahead a.text.now a.at c.name_run-n.result 2) ∙ c.if-text-tab-ne-LINE_FEED.false;
     }
 
@@ -59,7 +60,7 @@ returns-then-text-tab-ne-TAB c =
 pub returns-then-not-between : goal.returns-then-not-between
 returns-then-not-between c =
     no_line_lem (drop c.args.at c.args.text.now) c.name_run-n.result c.name_run-n.ensures
-    (λ p. true≢false (sym p.digit ∙ sym (digit (goal.at.returns-then-not-between c).After-between) ∙ not-true _ c.if-not-between.true))
+    (λ p. true≢false (sym p.digit ∙ sym (digit (goal.at.returns-then-not-between c).After-between) ∙ c.if-not-between.true))
 
 pub returns-then-text-tab-ne-LINE_FEED : goal.returns-then-text-tab-ne-LINE_FEED
 returns-then-text-tab-ne-LINE_FEED c =

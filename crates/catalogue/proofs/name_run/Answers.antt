@@ -16,7 +16,7 @@ pub returns-then-not-name_byte : goal.returns-then-not-name_byte
 returns-then-not-name_byte c =
     let l = c.loop-i in
     let s = c.args.text.now in
-    omega (arith, run-here s l.i (omega arith) (sym c.name_byte.ensures ∙ not-true _ c.if-not-name_byte.true))
+    omega (arith, run-here s l.i (omega arith) (sym c.name_byte.ensures ∙ c.if-not-name_byte.true))
 
 pub loop-i-preserved : goal.loop-i-preserved
 loop-i-preserved c =
@@ -24,7 +24,7 @@ loop-i-preserved c =
     let s = c.args.text.now in (
       omega arith,
       omega arith,
-      sym (run_on s l.i (omega arith) (sym c.name_byte.ensures ∙ not-false _ c.if-not-name_byte.false)) ∙ l.invariant.2,
+      sym (run_on s l.i (omega arith) (sym c.name_byte.ensures ∙ c.if-not-name_byte.false)) ∙ l.invariant.2,
     )
 
 pub returns : goal.returns

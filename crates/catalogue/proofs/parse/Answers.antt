@@ -59,7 +59,7 @@ with_topic-c-requires c =
 
 pub returns-then-not-is_new : goal.returns-then-not-is_new
 returns-then-not-is_new c =
-    let old = sym c.is_new.ensures ∙ not-true _ c.if-not-is_new.true in
+    let old = sym c.is_new.ensures ∙ c.if-not-is_new.true in
     c.refused-then-not-is_new.ensures
     ∙ sym (c.loop-at.invariant.3
     ∙ line-old c.args.text.now c.loop-at.at c.in-Topic.name c.in-Topic.partitions (omega arith) (topic (goal.at.returns-then-not-is_new c).In-Topic) c.loop-at.t c.loop-at.c c.with_topic-c.result (omega arith)
@@ -73,7 +73,7 @@ loop-at-smaller c = omega (arith, within (goal.at.loop-at-smaller c).In-Topic)
 
 pub loop-at-preserved : goal.loop-at-preserved
 loop-at-preserved c =
-    let new = sym c.is_new.ensures ∙ not-false _ c.if-not-is_new.false in (
+    let new = sym c.is_new.ensures ∙ c.if-not-is_new.false in (
       within (goal.at.loop-at-preserved c).In-Topic,
       omega arith,
       omega (arith, ap (λ (x : Catalogue). x.all) c.with_topic-c.ensures, all-grows c.loop-at.c.all c.loop-at.t c.in-Topic.partitions (omega (arith, few (goal.at.loop-at-preserved c).In-Topic)) (omega arith)),
