@@ -1,0 +1,12 @@
+-- `producer_ids::init_row` meets its contract.
+use lib.Dec.{ltb}
+use Rattle.answers.specs.Limits.{places}
+use Rattle.coordinator.proofs.Named.{clock-is}
+use Rattle.producer_ids.proofs.InitSteps.{init-row-is}
+use borrow.Author.Rules.{rules}
+use Rattle.producer_ids.proofs.init_row.Goals as goal
+
+pub returns : goal.returns
+returns c =
+    let a = c.args in
+    init-row-is a.s a.name (ltb a.held.place places) a.held.row a.timeout a.time c.ranges.timeout (clock-is a.s c.ranges.time c.later-clock.ensures) c.new_pid.ensures c.init_row_with.ensures
