@@ -1,3 +1,2 @@
 // Runs of the whole server, as definitions and theorems: the crate has no functions.
 #![tactic(auto)]
-

@@ -10,25 +10,15 @@ use Rattle.coordinator.specs.Calls.{CoordinatorCall, end_call}
 use Rattle.server.specs.Calls.{call}
 use Rattle.calls.specs.Meets.{OfCoordinator}
 use Rattle.calls.proofs.Laws.{coordinator-meets}
-use Rattle.calls.proofs.end.Statement.{statement}
-use Rattle.calls.proofs.end.Tie as tie
+use Rattle.calls.proofs.end.Goals as goal
 
-end-requires : tie.Need-end-requires
-end-requires c κs = search rules
-
-same_length : tie.Need-same-length
-same_length c = search rules
-
-returns : tie.Need-returns
+pub returns : goal.returns
 returns c =
-    let a = c.before.before.before.before.before.before.args in
-    let r = c.before.before.end in
+    let a = c.args in
+    let r = c.end in
     let pid : to_z w64 (of_z w64 a.pid) ≡ a.pid = search rules in
     let epoch : to_z w16 (of_z w16 a.epoch) ≡ a.epoch = search rules in
     let time : to_z w64 (of_z w64 a.time) ≡ a.time = search rules in
-    subst (λ (d : CoordinatorCall). OfCoordinator (call d) a.s a.log.now (reply r.result.answer) r.result.state r.new.1.0)
+    subst (λ (d : CoordinatorCall). OfCoordinator (call d) a.s a.log.now (reply r.result.answer) r.result.state r.new.log)
     (λ i. end_call a.name.now (pid i) (epoch i) a.verdict (time i))
     (coordinator-meets reply (end a.s (length a.log.now) a.name.now (to_z w64 (of_z w64 a.pid)) (to_z w16 (of_z w16 a.epoch)) a.verdict (to_z w64 (of_z w64 a.time))) a.s a.log.now _ _ _ r.ensures)
-
-pub end-spec : {M : Type 1} → statement M
-end-spec = tie.close (tie.spec end-requires same_length returns)

@@ -10,24 +10,14 @@ use Rattle.coordinator.specs.Calls.{CoordinatorCall, ack_call}
 use Rattle.server.specs.Calls.{call}
 use Rattle.calls.specs.Meets.{OfCoordinator}
 use Rattle.calls.proofs.Laws.{coordinator-meets}
-use Rattle.calls.proofs.ack.Statement.{statement}
-use Rattle.calls.proofs.ack.Tie as tie
+use Rattle.calls.proofs.ack.Goals as goal
 
-ack-requires : tie.Need-ack-requires
-ack-requires c κs = search rules
-
-same_length : tie.Need-same-length
-same_length c = search rules
-
-returns : tie.Need-returns
+pub returns : goal.returns
 returns c =
-    let a = c.before.before.before.before.before.args in
-    let r = c.before.before.ack in
+    let a = c.args in
+    let r = c.ack in
     let pid : to_z w64 (of_z w64 a.pid) ≡ a.pid = search rules in
     let epoch : to_z w16 (of_z w16 a.epoch) ≡ a.epoch = search rules in
-    subst (λ (d : CoordinatorCall). OfCoordinator (call d) a.s a.log.now (reply r.result.answer) r.result.state r.new.1.0)
+    subst (λ (d : CoordinatorCall). OfCoordinator (call d) a.s a.log.now (reply r.result.answer) r.result.state r.new.log)
     (λ i. ack_call a.place (pid i) (epoch i) a.position)
     (coordinator-meets reply (ack a.s (length a.log.now) a.place (to_z w64 (of_z w64 a.pid)) (to_z w16 (of_z w16 a.epoch)) a.position) a.s a.log.now _ _ _ r.ensures)
-
-pub ack-spec : {M : Type 1} → statement M
-ack-spec = tie.close (tie.spec ack-requires same_length returns)

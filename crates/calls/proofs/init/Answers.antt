@@ -10,24 +10,14 @@ use Rattle.coordinator.specs.Calls.{CoordinatorCall, init_call}
 use Rattle.server.specs.Calls.{call}
 use Rattle.calls.specs.Meets.{OfCoordinator}
 use Rattle.calls.proofs.Laws.{coordinator-meets}
-use Rattle.calls.proofs.init.Statement.{statement}
-use Rattle.calls.proofs.init.Tie as tie
+use Rattle.calls.proofs.init.Goals as goal
 
-init-requires : tie.Need-init-requires
-init-requires c κs = search rules
-
-same_length : tie.Need-same-length
-same_length c = search rules
-
-returns : tie.Need-returns
+pub returns : goal.returns
 returns c =
-    let a = c.before.before.before.before.before.before.args in
-    let r = c.before.before.init in
+    let a = c.args in
+    let r = c.init in
     let timeout : to_z w32 (of_z w32 a.timeout) ≡ a.timeout = search rules in
     let time : to_z w64 (of_z w64 a.time) ≡ a.time = search rules in
-    subst (λ (d : CoordinatorCall). OfCoordinator (call d) a.s a.log.now (init_reply r.result.answer) r.result.state r.new.1.0)
+    subst (λ (d : CoordinatorCall). OfCoordinator (call d) a.s a.log.now (init_reply r.result.answer) r.result.state r.new.log)
     (λ i. init_call a.name.now (timeout i) (time i))
     (coordinator-meets init_reply (init a.s (length a.log.now) a.name.now (to_z w32 (of_z w32 a.timeout)) (to_z w64 (of_z w64 a.time))) a.s a.log.now _ _ _ r.ensures)
-
-pub init-spec : {M : Type 1} → statement M
-init-spec = tie.close (tie.spec init-requires same_length returns)

@@ -10,23 +10,13 @@ use Rattle.coordinator.specs.Calls.{CoordinatorCall, tick_call}
 use Rattle.server.specs.Calls.{call}
 use Rattle.calls.specs.Meets.{OfCoordinator}
 use Rattle.calls.proofs.Laws.{coordinator-meets}
-use Rattle.calls.proofs.tick.Statement.{statement}
-use Rattle.calls.proofs.tick.Tie as tie
+use Rattle.calls.proofs.tick.Goals as goal
 
-tick-requires : tie.Need-tick-requires
-tick-requires c κs = search rules
-
-same_length : tie.Need-same-length
-same_length c = search rules
-
-returns : tie.Need-returns
+pub returns : goal.returns
 returns c =
-    let a = c.before.before.before.before.before.args in
-    let r = c.before.before.tick in
+    let a = c.args in
+    let r = c.tick in
     let time : to_z w64 (of_z w64 a.time) ≡ a.time = search rules in
-    subst (λ (d : CoordinatorCall). OfCoordinator (call d) a.s a.log.now (tick_reply r.result.answer) r.result.state r.new.1.0)
+    subst (λ (d : CoordinatorCall). OfCoordinator (call d) a.s a.log.now (tick_reply r.result.answer) r.result.state r.new.log)
     (λ i. tick_call (time i))
     (coordinator-meets tick_reply (tick a.s (length a.log.now) (to_z w64 (of_z w64 a.time))) a.s a.log.now _ _ _ r.ensures)
-
-pub tick-spec : {M : Type 1} → statement M
-tick-spec = tie.close (tie.spec tick-requires same_length returns)

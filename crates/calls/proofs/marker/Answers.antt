@@ -9,25 +9,15 @@ use Rattle.partition.specs.Marker.{marker}
 use Rattle.server.specs.Calls.{Call, marker_call}
 use Rattle.calls.specs.Meets.{OfMarker}
 use Rattle.calls.proofs.Laws.{partition-meets}
-use Rattle.calls.proofs.marker.Statement.{statement}
-use Rattle.calls.proofs.marker.Tie as tie
+use Rattle.calls.proofs.marker.Goals as goal
 
-marker-requires : tie.Need-marker-requires
-marker-requires c κs = search rules
-
-same_length : tie.Need-same-length
-same_length c = search rules
-
-returns : tie.Need-returns
+pub returns : goal.returns
 returns c =
-    let a = c.before.before.before.before.before.args in
-    let r = c.before.before.marker in
+    let a = c.args in
+    let r = c.marker in
     let pid : to_z w64 (of_z w64 a.pid) ≡ a.pid = search rules in
     let epoch : to_z w16 (of_z w16 a.epoch) ≡ a.epoch = search rules in
     let coordinator : to_z w32 (of_z w32 a.coordinator) ≡ a.coordinator = search rules in
-    subst (λ (d : Call). OfMarker d a.p a.words.now (reply r.result.answer) r.result.state r.new.1.0)
+    subst (λ (d : Call). OfMarker d a.p a.words.now (reply r.result.answer) r.result.state r.new.words)
     (λ i. marker_call a.place (pid i) (epoch i) a.verdict (coordinator i))
     (partition-meets reply (marker a.p (length a.words.now) a.place (to_z w64 (of_z w64 a.pid)) (to_z w16 (of_z w16 a.epoch)) a.verdict (to_z w32 (of_z w32 a.coordinator))) a.p a.words.now _ _ _ r.ensures)
-
-pub marker-spec : {M : Type 1} → statement M
-marker-spec = tie.close (tie.spec marker-requires same_length returns)

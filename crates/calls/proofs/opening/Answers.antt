@@ -5,20 +5,13 @@ use mir.Val.{of_z, to_z}
 use Rattle.coordinator.specs.Open.{opening}
 use Rattle.calls.proofs.Laws.{opening-meets}
 use borrow.Author.Rules.{rules}
-use Rattle.calls.proofs.opening.Statement.{statement}
-use Rattle.calls.proofs.opening.Tie as tie
+use Rattle.calls.proofs.opening.Goals as goal
 
-opening-requires : tie.Need-opening-requires
-opening-requires c κs = search rules
-
-returns : tie.Need-returns
+pub returns : goal.returns
 returns c =
-    let a = c.before.before.before.args in
+    let a = c.args in
     let epoch : to_z w32 (of_z w32 a.epoch) ≡ a.epoch = search rules in
     let first : to_z w64 (of_z w64 a.first) ≡ a.first = search rules in
     let last : to_z w64 (of_z w64 a.last) ≡ a.last = search rules in
     opening-meets a.text.now a.log.now a.n a.epoch a.first a.last c.opening.result
     (c.opening.ensures ∙ (λ i. opening a.text.now a.log.now a.n (epoch i) (first i) (last i)))
-
-pub opening-spec : {M : Type 1} → statement M
-opening-spec = tie.close (tie.spec opening-requires returns)

@@ -9,25 +9,15 @@ use Rattle.server.specs.Produce.{produce}
 use Rattle.server.specs.Calls.{Call, produce_call}
 use Rattle.calls.specs.Meets.{OfPartition}
 use Rattle.calls.proofs.Laws.{partition-meets}
-use Rattle.calls.proofs.produce.Statement.{statement}
-use Rattle.calls.proofs.produce.Tie as tie
+use Rattle.calls.proofs.produce.Goals as goal
 
-produce-requires : tie.Need-produce-requires
-produce-requires c κs = search rules
-
-same_length : tie.Need-same-length
-same_length c = search rules
-
-returns : tie.Need-returns
+pub returns : goal.returns
 returns c =
-    let a = c.before.before.before.before.before.before.args in
-    let r = c.before.before.produce in
+    let a = c.args in
+    let r = c.produce in
     let pid : to_z w64 (of_z w64 a.pid) ≡ a.pid = search rules in
     let epoch : to_z w16 (of_z w16 a.epoch) ≡ a.epoch = search rules in
     let sequence : to_z w32 (of_z w32 a.sequence) ≡ a.sequence = search rules in
-    subst (λ (d : Call). OfPartition d a.s a.p a.words.now (produce_reply r.result.answer) r.result.state r.new.1.1.0)
+    subst (λ (d : Call). OfPartition d a.s a.p a.words.now (produce_reply r.result.answer) r.result.state r.new.words)
     (λ i. produce_call a.name.now (pid i) (epoch i) a.position (sequence i) a.payload)
     (partition-meets produce_reply (produce a.s a.p (length a.words.now) a.name.now (to_z w64 (of_z w64 a.pid)) (to_z w16 (of_z w16 a.epoch)) a.position (to_z w32 (of_z w32 a.sequence)) a.payload) a.p a.words.now _ _ _ r.ensures a.s)
-
-pub produce-spec : {M : Type 1} → statement M
-produce-spec = tie.close (tie.spec produce-requires same_length returns)
