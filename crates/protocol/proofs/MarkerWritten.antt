@@ -103,7 +103,7 @@ module _ (c : Catalogue) (h : History) (t : HistoryInvariant c h) where
             }),
             each-then (MarksPrepare h) (MarksPrepare (marker_written o ∷ h)) (λ m i. record { earlier = omega (arith, i.earlier); marked = rw keeps.records i.marked }) (collect markers_in h) t.marks,
           );
-          already-closed = λ k b. rw (keeps.records, more-markers o h, entries) (
+          already-closed = λ k b. simp (keeps.records, more-markers o h, entries) (
             in-each _ (entries_of h) (λ p j x y z. absurd (first-hit (under_of h p) (o.verdict + 1) (omega arith) (sym (after-hit p j (hit-is p x y)) ∙ z))),
             in-each _ (collect markers_in h) (λ m i. in-each _ (entries_of h) (λ p j x y z.
                 each_in (λ (p : Entry). AlreadyClosed (under_of h p) (ending_by k (records_of h)) m p) (entries_of h) p (closed_at c h t m i k (rw keeps.flushed at b)) j x y

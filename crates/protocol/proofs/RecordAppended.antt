@@ -156,7 +156,7 @@ module _ (c : Catalogue) (h : History) (t : HistoryInvariant c h) where
           numbered = rw added.records (omega arith, t.numbered);
           entitled = rw entries t.entitled;
           standing = λ k b. rw (added.records, entries) (under-each h appending (λ position pid. refl) (λ (n : ℕ) (p : Entry). Standing n (ending_by k (new ∷ records_of h)) p) (standing-cut k (rw added.flushed at b)));
-          by-ordinal = rw (added.records, entries) (
+          by-ordinal = simp (added.records, entries) (
             λ prepares. in-each _ (entries_of h) (λ p j w. joins prepares p j w),
             in-each _ (records_of h) (λ q i prepares. in-each _ (entries_of h)
                 (λ p j w. nth-more p.what.name new (records_of h) (ordinal_of p) q (ordinal-was c h t appending q i prepares p j w))),
