@@ -9,7 +9,7 @@ use lib.ListN.{length, take, drop, get_or, set, length-append, length-set, drop_
 use lib.Seq.{drop-cons, take-suc-set, take_all, take_at, length-take-le}
 use Rattle.numbers.proofs.Tests.{by_cases}
 use Rattle.fields.specs.Limits.{fields_max}
-use Rattle.fields.specs.Fields.{separates, part, fields_from, fields_of, count, SplitInto}
+use Rattle.fields.specs.Fields.{separates, part, fields_from, fields_of, SplitInto}
 use Rattle.fields.specs.declared.Part.{Part}
 
 -- a line has a field
