@@ -1,4 +1,4 @@
--- `fields::field_in_lem` meets its contract.
+-- `fields::field_in` meets its contract.
 use mathlib.Core.Path.{ap, ◌∙◌}
 use Rattle.fields.specs.Fields.{bytes_of}
 use Rattle.fields.proofs.field_in.Goals as goal
