@@ -5,55 +5,50 @@ mod stores;
 
 use answers::{Answer, InitAnswer, OpenAnswer, OrderAnswer, ProduceAnswer, ReadAnswer, TickAnswer};
 use coordinator::Coordinator;
-use libc::STDOUT_FILENO;
 use partition::Partition;
+use std::io;
 pub use stores::{show_log, show_words, write_catalogue, write_log};
 
-pub fn bytes(run: &[u8]) {
-    io::write_all(STDOUT_FILENO, run);
+pub fn bytes(rt: &impl Print, run: &[u8]) -> io::Result<()> {
+    rt.write_all(run)
 }
 
 // The word of a line.
-pub fn word(line: &[u8]) {
-    bytes(call_lines::field(line, 0));
+pub fn word(rt: &impl Print, line: &[u8]) -> io::Result<()> {
+    bytes(rt, call_lines::field(line, 0))
 }
 
-pub fn end_line() {
-    bytes(b"\n");
+pub fn end_line(rt: &impl Print) -> io::Result<()> {
+    bytes(rt, b"\n")
 }
 
 // A line as it stands.
-pub fn whole(line: &[u8]) {
-    bytes(line);
-    end_line();
+pub fn whole(rt: &impl Print, line: &[u8]) -> io::Result<()> {
+    bytes(rt, line)?;
+    end_line(rt)
 }
 
 // A line that is none.
-pub fn unknown() {
-    bytes(b"?\n");
+pub fn unknown(rt: &impl Print) -> io::Result<()> {
+    bytes(rt, b"?\n")
 }
 
-pub fn natural(n: u64) {
-    bytes(b"\t");
-    io::print_decimal(STDOUT_FILENO, n);
+pub fn natural(rt: &impl Print, n: u64) -> io::Result<()> {
+    print!(rt; "\t{n}")
 }
 
-fn signed(x: i64) {
-    bytes(b"\t");
-    if x < 0 {
-        bytes(b"-");
-    }
-    io::print_decimal(STDOUT_FILENO, numbers::magnitude(x));
+fn signed(rt: &impl Print, x: i64) -> io::Result<()> {
+    print!(rt; "\t{x}")
 }
 
 // The number of what was accepted, without results.
-fn none() {
-    natural(0);
-    bytes(b"\t-");
+fn none(rt: &impl Print) -> io::Result<()> {
+    natural(rt, 0)?;
+    bytes(rt, b"\t-")
 }
 
-fn refused(number: u8) {
-    natural(number as u64);
+fn refused(rt: &impl Print, number: u8) -> io::Result<()> {
+    natural(rt, number as u64)
 }
 
 fn wide(b: u8) -> u64 {
@@ -61,69 +56,67 @@ fn wide(b: u8) -> u64 {
 }
 
 // Bytes in hexadecimal, behind one tab.
-pub fn hexadecimal(run: &[u8]) {
-    bytes(b"\t");
-    let mut i: usize = 0;
-    while i < run.len() {
-        io::print_hex(STDOUT_FILENO, wide(run[i]), 2);
-        i += 1;
+pub fn hexadecimal(rt: &impl Print, run: &[u8]) -> io::Result<()> {
+    bytes(rt, b"\t")?;
+    for b in run {
+        print!(rt; "{:02x}", wide(*b))?;
     }
+    Ok(())
 }
 
 // Words in decimal, each behind a tab.
-pub fn words(run: &[u64]) {
-    let mut i: usize = 0;
-    while i < run.len() {
-        natural(run[i]);
-        i += 1;
+pub fn words(rt: &impl Print, run: &[u64]) -> io::Result<()> {
+    for n in run {
+        natural(rt, *n)?;
     }
+    Ok(())
 }
 
 // ---- Answers.
 
 // Add, End, Flush, Ack and Marker.
-pub fn done(answer: Answer) {
+pub fn done(rt: &impl Print, answer: Answer) -> io::Result<()> {
     match answer {
-        Answer::Done => natural(0),
-        Answer::Refused(number) => refused(number),
+        Answer::Done => natural(rt, 0),
+        Answer::Refused(number) => refused(rt, number),
     }
 }
 
-pub fn opened(answer: OpenAnswer) {
+pub fn opened(rt: &impl Print, answer: OpenAnswer) -> io::Result<()> {
     match answer {
-        OpenAnswer::Opened => natural(0),
+        OpenAnswer::Opened => natural(rt, 0),
         OpenAnswer::BadLog(at) => {
-            refused(answers::INVALID_LOG);
-            natural(at as u64);
+            refused(rt, answers::INVALID_LOG)?;
+            natural(rt, at as u64)
         }
-        OpenAnswer::Refused(number) => refused(number),
+        OpenAnswer::Refused(number) => refused(rt, number),
     }
 }
 
-pub fn initialized(answer: InitAnswer) {
+pub fn initialized(rt: &impl Print, answer: InitAnswer) -> io::Result<()> {
     match answer {
         InitAnswer::Given(pid, epoch) => {
-            natural(0);
-            signed(pid);
-            signed(numbers::wide_i16(epoch));
+            natural(rt, 0)?;
+            signed(rt, pid)?;
+            signed(rt, numbers::wide_i16(epoch))
         }
-        InitAnswer::Aborting => none(),
-        InitAnswer::Refused(number) => refused(number),
+        InitAnswer::Aborting => none(rt),
+        InitAnswer::Refused(number) => refused(rt, number),
     }
 }
 
-pub fn ticked(answer: TickAnswer) {
+pub fn ticked(rt: &impl Print, answer: TickAnswer) -> io::Result<()> {
     match answer {
         TickAnswer::Aborted(place) => {
-            natural(0);
-            natural(place as u64);
+            natural(rt, 0)?;
+            natural(rt, place as u64)
         }
-        TickAnswer::NoneDue => none(),
-        TickAnswer::Refused(number) => refused(number),
+        TickAnswer::NoneDue => none(rt),
+        TickAnswer::Refused(number) => refused(rt, number),
     }
 }
 
-pub fn ordered(answer: OrderAnswer) {
+pub fn ordered(rt: &impl Print, answer: OrderAnswer) -> io::Result<()> {
     match answer {
         OrderAnswer::Order {
             place,
@@ -133,53 +126,53 @@ pub fn ordered(answer: OrderAnswer) {
             position,
             coordinator,
         } => {
-            natural(0);
-            natural(place as u64);
-            signed(pid);
-            signed(numbers::wide_i16(epoch));
-            natural(verdict);
-            natural(position as u64);
-            signed(numbers::wide_i32(coordinator));
+            natural(rt, 0)?;
+            natural(rt, place as u64)?;
+            signed(rt, pid)?;
+            signed(rt, numbers::wide_i16(epoch))?;
+            natural(rt, verdict)?;
+            natural(rt, position as u64)?;
+            signed(rt, numbers::wide_i32(coordinator))
         }
-        OrderAnswer::NoOrder => none(),
+        OrderAnswer::NoOrder => none(rt),
     }
 }
 
-pub fn produced(answer: ProduceAnswer) {
+pub fn produced(rt: &impl Print, answer: ProduceAnswer) -> io::Result<()> {
     match answer {
         ProduceAnswer::Written(offset) => {
-            natural(0);
-            natural(offset as u64);
+            natural(rt, 0)?;
+            natural(rt, offset as u64)
         }
-        ProduceAnswer::Refused(number) => refused(number),
+        ProduceAnswer::Refused(number) => refused(rt, number),
     }
 }
 
-pub fn copied(answer: ReadAnswer) {
+pub fn copied(rt: &impl Print, answer: ReadAnswer) -> io::Result<()> {
     match answer {
         ReadAnswer::Copied(count, next) => {
-            natural(0);
-            natural(count as u64);
-            natural(next as u64);
+            natural(rt, 0)?;
+            natural(rt, count as u64)?;
+            natural(rt, next as u64)
         }
-        ReadAnswer::Refused(number) => refused(number),
+        ReadAnswer::Refused(number) => refused(rt, number),
     }
 }
 
 // ---- States.
 
 // The log's end, the flushed length and the clock.
-pub fn coordinator(c: Coordinator) {
+pub fn coordinator(rt: &impl Print, c: Coordinator) -> io::Result<()> {
     let table = c.table;
-    natural(table.end as u64);
-    natural(c.flushed as u64);
-    natural(c.clock);
-    end_line();
+    natural(rt, table.end as u64)?;
+    natural(rt, c.flushed as u64)?;
+    natural(rt, c.clock)?;
+    end_line(rt)
 }
 
 // The end, the coordinator epoch and the stable end.
-pub fn partition(p: Partition) {
-    natural(p.end as u64);
-    natural(p.coordinator as u64);
-    natural(committed_reader::stable_end(p) as u64);
+pub fn partition(rt: &impl Print, p: Partition) -> io::Result<()> {
+    natural(rt, p.end as u64)?;
+    natural(rt, p.coordinator as u64)?;
+    natural(rt, committed_reader::stable_end(p) as u64)
 }

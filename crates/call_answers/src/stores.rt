@@ -1,5 +1,6 @@
 // The lines that write or show the stores: the catalogue's text, the bytes of the log, the words of a partition.
 use crate::{end_line, hexadecimal, unknown, word, words};
+use std::io;
 
 // A catalogue's byte: `:` stands for a tab and `,` for a line feed.
 fn text_byte(b: u8) -> u8 {
@@ -26,21 +27,25 @@ fn write_text(store: &mut [u8], run: &[u8]) -> bool {
 }
 
 // Writes the word of a line that was obeyed, or `?` for one that was not.
-fn obeyed(line: &[u8], was: bool) {
+fn obeyed(rt: &impl Print, line: &[u8], was: bool) -> io::Result<()> {
     if was {
-        word(line);
-        end_line();
-        return;
+        word(rt, line)?;
+        return end_line(rt);
     }
-    unknown();
+    unknown(rt)
 }
 
 // `catalogue TEXT`: the length of the text, or the one before if it does not fit.
-pub fn write_catalogue(length: usize, line: &[u8], store: &mut [u8]) -> usize {
+pub fn write_catalogue(
+    rt: &impl Print,
+    length: usize,
+    line: &[u8],
+    store: &mut [u8],
+) -> io::Result<usize> {
     let run = call_lines::field(line, 1);
     let fits = write_text(store, run);
-    obeyed(line, fits);
-    if fits { run.len() } else { length }
+    obeyed(rt, line, fits)?;
+    Ok(if fits { run.len() } else { length })
 }
 
 // Writes bytes of two digits each from a place on, and says whether they fit.
@@ -61,43 +66,39 @@ fn write_digits(log: &mut [u8], at: usize, digits: &[u8]) -> bool {
 }
 
 // `bytes AT HEX`
-pub fn write_log(line: &[u8], log: &mut [u8]) {
+pub fn write_log(rt: &impl Print, line: &[u8], log: &mut [u8]) -> io::Result<()> {
     let at = call_lines::place(line, 1);
-    obeyed(line, write_digits(log, at, call_lines::field(line, 2)));
+    obeyed(rt, line, write_digits(log, at, call_lines::field(line, 2)))
 }
 
 // `log FROM COUNT`
-pub fn show_log(line: &[u8], log: &[u8]) {
+pub fn show_log(rt: &impl Print, line: &[u8], log: &[u8]) -> io::Result<()> {
     let from = call_lines::place(line, 1);
     let count = call_lines::place(line, 2);
     if log.len() < from {
-        unknown();
-        return;
+        return unknown(rt);
     }
     if log.len() - from < count {
-        unknown();
-        return;
+        return unknown(rt);
     }
     let end = from + count;
-    word(line);
-    hexadecimal(&log[from..end]);
-    end_line();
+    word(rt, line)?;
+    hexadecimal(rt, &log[from..end])?;
+    end_line(rt)
 }
 
 // `words INDEX FROM COUNT`, of the words of that partition.
-pub fn show_words(line: &[u8], store: &[u64]) {
+pub fn show_words(rt: &impl Print, line: &[u8], store: &[u64]) -> io::Result<()> {
     let from = call_lines::place(line, 2);
     let count = call_lines::place(line, 3);
     if store.len() < from {
-        unknown();
-        return;
+        return unknown(rt);
     }
     if store.len() - from < count {
-        unknown();
-        return;
+        return unknown(rt);
     }
     let end = from + count;
-    word(line);
-    words(&store[from..end]);
-    end_line();
+    word(rt, line)?;
+    words(rt, &store[from..end])?;
+    end_line(rt)
 }

@@ -3,6 +3,8 @@
 
 use input_lines::Step;
 use script_state::State;
+use std::io;
+use std::io::Read;
 
 const LOG_ROOM: usize = 8192;
 
@@ -10,39 +12,52 @@ const LOG_ROOM: usize = 8192;
 const LINE_ROOM: usize = 32768;
 
 // Performs what was read.
-fn perform_step(s: State, buffer: &[u8], step: Step, log: &mut [u8], words: &mut [u64]) -> State {
+fn perform_step(
+    rt: &impl Print,
+    s: State,
+    buffer: &[u8],
+    step: Step,
+    log: &mut [u8],
+    words: &mut [u64],
+) -> io::Result<State> {
     match step {
         Step::Line { from, len, rest: _ } => {
             let line = input_lines::part(buffer, from, len);
-            script_state::perform(s, line, log, words)
+            script_state::perform(rt, s, line, log, words)
         }
         Step::Long { rest: _ } => {
-            call_answers::unknown();
-            s
+            call_answers::unknown(rt)?;
+            Ok(s)
         }
-        _ => s,
+        _ => Ok(s),
     }
 }
 
 // Reads and performs until there is no more.
-fn run(buffer: &mut [u8], log: &mut [u8], words: &mut [u64]) {
+fn run(
+    rt: &impl Print,
+    input: &mut impl Read,
+    buffer: &mut [u8],
+    log: &mut [u8],
+    words: &mut [u64],
+) -> io::Result<()> {
     let mut state = script_state::opened(log);
     let mut cursor = input_lines::start();
-    let mut turns = u64::MAX;
-    while 0 < turns {
-        let step = input_lines::next(buffer, cursor);
+    for _ in 0..u64::MAX {
+        let step = input_lines::next(input, buffer, cursor)?;
         if input_lines::is_end(step) {
-            return;
+            break;
         }
-        state = perform_step(state, buffer, step, log, words);
+        state = perform_step(rt, state, buffer, step, log, words)?;
         cursor = input_lines::behind(step);
-        turns -= 1;
     }
+    Ok(())
 }
 
-fn main() {
+fn main(rt: HostRuntime) -> io::Result<()> {
+    let mut input = rt.stdin();
     let mut buffer = [0u8; LINE_ROOM];
     let mut log = [0u8; LOG_ROOM];
     let mut words = [0u64; script_state::PARTITIONS * script_state::WORDS_ROOM];
-    run(&mut buffer, &mut log, &mut words);
+    run(&rt, &mut input, &mut buffer, &mut log, &mut words)
 }

@@ -4,8 +4,8 @@
 use command::Command;
 use fields::Part;
 use input_lines::Step;
-use libc::STDOUT_FILENO;
 use listing::{Rendered, Reply, Results};
+use std::io;
 
 // A short buffer, so that many lines do not fit it.
 const LINE_ROOM: usize = 128;
@@ -13,101 +13,133 @@ const LINE_ROOM: usize = 128;
 const OUT_ROOM: usize = 512;
 
 // Writes a line.
-fn print(row: usize, reply: Reply, first: usize, second: usize, payloads: &[u64]) {
+fn print(
+    rt: &impl Print,
+    row: usize,
+    reply: Reply,
+    first: usize,
+    second: usize,
+    payloads: &[u64],
+) -> io::Result<()> {
     let mut out = [0u8; OUT_ROOM];
     let rendered = listing::render(&mut out, 0, row, reply, first, second, payloads);
     if let Rendered::Next(end) = rendered {
         if end <= OUT_ROOM {
-            io::write_all(STDOUT_FILENO, &out[..end]);
+            rt.write_all(&out[..end])?;
         }
     }
+    Ok(())
 }
 
 // Writes numbers of a command, and where its name stands.
-fn print_named(row: usize, number: u8, results: Results, name: Part, payloads: &[u64]) {
+fn print_named(
+    rt: &impl Print,
+    row: usize,
+    number: u8,
+    results: Results,
+    name: Part,
+    payloads: &[u64],
+) -> io::Result<()> {
     let reply = Reply::Answered { number, results };
-    print(row, reply, name.from, name.len, payloads);
+    print(rt, row, reply, name.from, name.len, payloads)
 }
 
-fn print_two(row: usize, a: i64, b: i64, name: Part) {
+fn print_two(rt: &impl Print, row: usize, a: i64, b: i64, name: Part) -> io::Result<()> {
     let payloads = [0u64; 2];
-    print_named(row, 0, Results::Two(a, b), name, &payloads);
+    print_named(rt, row, 0, Results::Two(a, b), name, &payloads)
 }
 
-fn print_three(row: usize, first: i64, second: i64, third: i64, name: Part) {
+fn print_three(
+    rt: &impl Print,
+    row: usize,
+    first: i64,
+    second: i64,
+    third: i64,
+    name: Part,
+) -> io::Result<()> {
     let payloads = [0u64; 2];
     let results = Results::Three {
         first,
         second,
         third,
     };
-    print_named(row, 0, results, name, &payloads);
+    print_named(rt, row, 0, results, name, &payloads)
 }
 
-fn print_payloads(row: usize, a: u64, b: u64, name: Part) {
+fn print_payloads(rt: &impl Print, row: usize, a: u64, b: u64, name: Part) -> io::Result<()> {
     let mut payloads = [0u64; 2];
     payloads[0] = a;
     payloads[1] = b;
-    print_named(row, 0, Results::Payloads(2), name, &payloads);
+    print_named(rt, row, 0, Results::Payloads(2), name, &payloads)
 }
 
-fn print_one(row: usize, a: u64) {
-    print_payloads(row, a, a, Part { from: 0, len: 0 });
+fn print_one(rt: &impl Print, row: usize, a: u64) -> io::Result<()> {
+    print_payloads(rt, row, a, a, Part { from: 0, len: 0 })
 }
 
-fn print_other(row: usize, reply: Reply) {
+fn print_other(rt: &impl Print, row: usize, reply: Reply) -> io::Result<()> {
     let payloads = [0u64; 1];
-    print(row, reply, 1, 18446744073709551615, &payloads);
+    print(rt, row, reply, 1, 18446744073709551615, &payloads)
 }
 
 // Writes a command of a producer: its pid and epoch, one more signed number, and two others.
-fn print_producer(row: usize, name: Part, pid: i64, epoch: i16, number: i64, a: u64, b: u64) {
-    print_three(row, pid, numbers::wide_i16(epoch), number, name);
-    print_payloads(row, a, b, name)
+fn print_producer(
+    rt: &impl Print,
+    row: usize,
+    name: Part,
+    pid: i64,
+    epoch: i16,
+    number: i64,
+    a: u64,
+    b: u64,
+) -> io::Result<()> {
+    print_three(rt, row, pid, numbers::wide_i16(epoch), number, name)?;
+    print_payloads(rt, row, a, b, name)
 }
 
 // Writes what a command without a name is; the numbers of `flush` show two digits.
-fn print_nameless(row: usize, c: Command) {
+fn print_nameless(rt: &impl Print, row: usize, c: Command) -> io::Result<()> {
     match c {
-        Command::Tick { time } => print_two(row, time, time, Part { from: 0, len: 0 }),
+        Command::Tick { time } => print_two(rt, row, time, time, Part { from: 0, len: 0 }),
         Command::Flush => print_other(
+            rt,
             row,
             Reply::Answered {
                 number: 22,
                 results: Results::Empty,
             },
         ),
-        Command::Carry { up } => print_one(row, up),
-        Command::Read { position } => print_one(row, position),
-        Command::Cut { kept } => print_one(row, kept),
-        Command::Left { place } => print_one(row, place),
-        _ => print_other(row, Reply::Unknown),
+        Command::Carry { up } => print_one(rt, row, up),
+        Command::Read { position } => print_one(rt, row, position),
+        Command::Cut { kept } => print_one(rt, row, kept),
+        Command::Left { place } => print_one(rt, row, place),
+        _ => print_other(rt, row, Reply::Unknown),
     }
 }
 
 // Writes what a command is.
-fn print_command(c: Command) {
+fn print_command(rt: &impl Print, c: Command) -> io::Result<()> {
     let row = command::row_of_command(c);
     match c {
         Command::Init {
             name,
             timeout,
             time,
-        } => print_two(row, numbers::wide_i32(timeout), time, name),
+        } => print_two(rt, row, numbers::wide_i32(timeout), time, name),
         Command::Add {
             name,
             pid,
             epoch,
             set,
             time,
-        } => print_producer(row, name, pid, epoch, time, set, 0),
+        } => print_producer(rt, row, name, pid, epoch, time, set, 0),
         Command::End {
             name,
             pid,
             epoch,
             verdict,
             time,
-        } => print_producer(row, name, pid, epoch, time, verdict, 0),
+        } => print_producer(rt, row, name, pid, epoch, time, verdict, 0),
         Command::Put {
             name,
             pid,
@@ -117,34 +149,34 @@ fn print_command(c: Command) {
             payload,
         } => {
             let number = numbers::wide_i32(sequence);
-            print_producer(row, name, pid, epoch, number, position, payload)
+            print_producer(rt, row, name, pid, epoch, number, position, payload)
         }
-        _ => print_nameless(row, c),
+        _ => print_nameless(rt, row, c),
     }
 }
 
 // Writes what a line is that was read. One that did not fit the buffer is no command.
-fn print_step(buffer: &[u8], step: Step) {
+fn print_step(rt: &impl Print, buffer: &[u8], step: Step) -> io::Result<()> {
     match step {
         Step::Line { from, len, rest: _ } => {
-            print_command(command::parse(input_lines::part(buffer, from, len)))
+            print_command(rt, command::parse(input_lines::part(buffer, from, len)))
         }
-        Step::Long { rest: _ } => print_command(Command::Unknown),
-        _ => (),
+        Step::Long { rest: _ } => print_command(rt, Command::Unknown),
+        _ => Ok(()),
     }
 }
 
-fn main() {
+fn main(rt: HostRuntime) -> io::Result<()> {
+    let mut input = rt.stdin();
     let mut buffer = [0u8; LINE_ROOM];
     let mut cursor = input_lines::start();
-    let mut turns = u64::MAX;
-    while 0 < turns {
-        let step = input_lines::next(&mut buffer, cursor);
+    for _ in 0..u64::MAX {
+        let step = input_lines::next(&mut input, &mut buffer, cursor)?;
         if input_lines::is_end(step) {
-            return;
+            break;
         }
-        print_step(&buffer, step);
+        print_step(&rt, &buffer, step)?;
         cursor = input_lines::behind(step);
-        turns -= 1;
     }
+    Ok(())
 }

@@ -4,13 +4,12 @@
 ghost use Rattle.std.specs.Prelude.{◌≡◌, min};
 
 use command::Command;
-use libc::STDOUT_FILENO;
 use session::{Response, Results, Session};
+use std::io;
 
 // A number behind a tab.
-fn print_field(n: u64) {
-    io::write_all(STDOUT_FILENO, b"\t");
-    io::print_decimal(STDOUT_FILENO, n);
+fn print_field(rt: &impl Print, n: u64) -> io::Result<()> {
+    print!(rt; "\t{n}")
 }
 
 // The lesser of two numbers.
@@ -21,16 +20,15 @@ fn lesser(a: usize, b: usize) -> usize
 }
 
 // The first payloads, and `-` if there are none.
-fn print_payloads(payloads: &[u64], count: usize) {
+fn print_payloads(rt: &impl Print, payloads: &[u64], count: usize) -> io::Result<()> {
     let n = lesser(count, payloads.len());
     if n == 0 {
-        io::write_all(STDOUT_FILENO, b"\t-");
+        print!(rt; "\t-")?;
     }
-    let mut i: usize = 0;
-    while i < n {
-        print_field(payloads[i]);
-        i += 1;
+    for payload in &payloads[..n] {
+        print_field(rt, *payload)?;
     }
+    Ok(())
 }
 
 // How many payloads a Read has copied.
@@ -43,34 +41,42 @@ fn count_of(response: Response) -> usize {
 }
 
 // A position, and what Read gives there.
-fn print_read(s: Session, position: u64, log: &mut [u8], words: &mut [u64], payloads: &mut [u64]) {
+fn print_read(
+    rt: &impl Print,
+    s: Session,
+    position: u64,
+    log: &mut [u8],
+    words: &mut [u64],
+    payloads: &mut [u64],
+) -> io::Result<()> {
     let command = Command::Read { position };
     let made = session_commands::perform(s, command, b"", log, words, payloads);
     let response = made.response;
-    print_field(position);
-    print_payloads(payloads, count_of(response));
+    print_field(rt, position)?;
+    print_payloads(rt, payloads, count_of(response))
 }
 
 // The line of a length: what Read gives at each position of the catalogue.
 pub fn print_line(
+    rt: &impl Print,
     s: Session,
     length: usize,
     log: &mut [u8],
     words: &mut [u64],
     payloads: &mut [u64],
-) {
-    io::print_decimal(STDOUT_FILENO, length as u64);
-    print_read(s, 0, log, words, payloads);
-    print_read(s, 1, log, words, payloads);
-    print_read(s, 8, log, words, payloads);
-    io::write_all(STDOUT_FILENO, b"\n");
+) -> io::Result<()> {
+    print!(rt; "{length}")?;
+    print_read(rt, s, 0, log, words, payloads)?;
+    print_read(rt, s, 1, log, words, payloads)?;
+    print_read(rt, s, 8, log, words, payloads)?;
+    print!(rt; "\n")
 }
 
 // The last line: how many lengths and how many outcomes.
-pub fn print_counts(lengths: usize, outcomes: usize) {
-    io::write_all(STDOUT_FILENO, b"lengths");
-    print_field(lengths as u64);
-    io::write_all(STDOUT_FILENO, b"\toutcomes");
-    print_field(outcomes as u64);
-    io::write_all(STDOUT_FILENO, b"\n");
+pub fn print_counts(rt: &impl Print, lengths: usize, outcomes: usize) -> io::Result<()> {
+    print!(rt; "lengths")?;
+    print_field(rt, lengths as u64)?;
+    print!(rt; "\toutcomes")?;
+    print_field(rt, outcomes as u64)?;
+    print!(rt; "\n")
 }

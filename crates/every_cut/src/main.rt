@@ -6,6 +6,7 @@ ghost use Rattle.session.specs.Memory.{memory};
 ghost use Rattle.after_cut.specs.AfterCut.{outcome_at};
 
 use session::Session;
+use std::io;
 
 // The buffers are those of the program `rigrun`.
 const LOG_ROOM: usize = 8192;
@@ -27,27 +28,34 @@ fn lesser(a: usize, b: usize) -> usize
     if a < b { a } else { b }
 }
 
-// Cuts copies of the log and the partitions at a length, prints what can be read once all is carried, and answers the outcome.
+// Cuts copies of the log and the partitions at a length, prints what can be read once all is carried, and answers the outcome, and whether it was printed.
 fn try_cut(
+    rt: &impl Print,
     s: Session,
     length: usize,
     log: [u8; LOG_ROOM],
     words: [u64; WORDS_ROOM],
     payloads: &mut [u64],
-) -> u64
-    ensures { result ≡ outcome_at length (memory s log words payloads.old) }
+) -> (u64, io::Result<()>)
+    ensures { result.0 ≡ outcome_at length (memory s log words payloads.old) }
 {
     let mut log = log;
     let mut words = words;
     let after = after_cut::after_cut(s, length, &mut log, &mut words, payloads);
-    cut_lines::print_line(after, length, &mut log, &mut words, payloads);
+    let printed = cut_lines::print_line(rt, after, length, &mut log, &mut words, payloads);
     let old = s.coordinator;
     let new = after.coordinator;
-    after_cut::outcome(old, new)
+    (after_cut::outcome(old, new), printed)
 }
 
 // Tries every length from the flushed one to the end.
-fn try_all(s: Session, log: [u8; LOG_ROOM], words: [u64; WORDS_ROOM], payloads: &mut [u64]) {
+fn try_all(
+    rt: &impl Print,
+    s: Session,
+    log: [u8; LOG_ROOM],
+    words: [u64; WORDS_ROOM],
+    payloads: &mut [u64],
+) -> io::Result<()> {
     let c = s.coordinator;
     let flushed = c.flushed;
     let end = lesser(c.table.end, LOG_ROOM);
@@ -55,18 +63,26 @@ fn try_all(s: Session, log: [u8; LOG_ROOM], words: [u64; WORDS_ROOM], payloads: 
     let mut outcomes: usize = 0;
     let mut length = flushed;
     while length <= end {
-        let outcome = try_cut(s, length, log, words, payloads);
+        let (outcome, printed) = try_cut(rt, s, length, log, words, payloads);
+        printed?;
         outcomes = cut_outcomes::note(&mut seen, outcomes, outcome);
         length += 1;
     }
-    cut_lines::print_counts(length - flushed, outcomes);
+    cut_lines::print_counts(rt, length - flushed, outcomes)
 }
 
-fn main() {
+fn main(rt: HostRuntime) -> io::Result<()> {
+    let mut input = rt.stdin();
     let mut log = [0u8; LOG_ROOM];
     let mut words = [0u64; WORDS_ROOM];
     let mut payloads = [0u64; PAYLOADS];
     let mut buffer = [0u8; LINE_ROOM];
-    let session = script_session::run_script(&mut buffer, &mut log, &mut words, &mut payloads);
-    try_all(session, log, words, &mut payloads);
+    let session = script_session::run_script(
+        &mut input,
+        &mut buffer,
+        &mut log,
+        &mut words,
+        &mut payloads,
+    )?;
+    try_all(&rt, session, log, words, &mut payloads)
 }

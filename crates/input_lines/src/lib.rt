@@ -1,9 +1,10 @@
-// Reads standard input by lines.
+// Reads an input by lines.
 #![tactic(auto)]
 
 use fields::Part;
-use libc::STDIN_FILENO;
 use lines::{Cursor, Last, Next};
+use std::io;
+use std::io::Read;
 
 // A line and where the buffer is read on behind it; one that did not fit the buffer; a part that ends no line; or the end of the input.
 #[derive(Clone, Copy)]
@@ -45,39 +46,38 @@ fn last(buffer: &[u8], cursor: Cursor) -> Step {
 }
 
 // Reads a part behind what is kept; the same cursor if there is no more.
-fn read_part(buffer: &mut [u8], kept: Cursor) -> Cursor {
+fn read_part(input: &mut impl Read, buffer: &mut [u8], kept: Cursor) -> io::Result<Cursor> {
     let end = kept.end;
     if buffer.len() < end {
-        return kept;
+        return Ok(kept);
     }
-    let got = libc::read(STDIN_FILENO, &mut buffer[end..]);
-    let n = io::count(got, &buffer[end..]);
+    let n = input.read(&mut buffer[end..])?;
     if buffer.len() - end < n {
-        return kept;
+        return Ok(kept);
     }
-    Cursor {
+    Ok(Cursor {
         from: 0,
         end: end + n,
         skipping: kept.skipping,
-    }
+    })
 }
 
 // Reads on behind an unfinished line.
-fn more(buffer: &mut [u8], cursor: Cursor) -> Step {
+fn more(input: &mut impl Read, buffer: &mut [u8], cursor: Cursor) -> io::Result<Step> {
     let kept = lines::keep(buffer, cursor);
-    let rest = read_part(buffer, kept);
+    let rest = read_part(input, buffer, kept)?;
     if rest.end == kept.end {
-        return last(buffer, rest);
+        return Ok(last(buffer, rest));
     }
-    Step::Part { rest }
+    Ok(Step::Part { rest })
 }
 
 // The next line of the buffer, or what comes of reading on.
-pub fn next(buffer: &mut [u8], cursor: Cursor) -> Step {
+pub fn next(input: &mut impl Read, buffer: &mut [u8], cursor: Cursor) -> io::Result<Step> {
     match lines::next_line(buffer, cursor) {
-        Next::Line { from, len, rest } => Step::Line { from, len, rest },
-        Next::Long { rest } => Step::Long { rest },
-        Next::More => more(buffer, cursor),
+        Next::Line { from, len, rest } => Ok(Step::Line { from, len, rest }),
+        Next::Long { rest } => Ok(Step::Long { rest }),
+        Next::More => more(input, buffer, cursor),
     }
 }
 

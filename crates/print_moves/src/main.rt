@@ -1,72 +1,60 @@
 // Prints the table of the status moves, a row for the status held and a column for the new one, each column 19 characters wide.
 #![tactic(auto)]
 
-use libc::STDOUT_FILENO;
 use record::Status;
+use std::io;
 
 // The code and the name of a status.
-fn heading(status: Status) {
+fn heading(rt: &impl Print, status: Status) -> io::Result<()> {
     match status {
-        Status::Empty => {
-            io::write_all(STDOUT_FILENO, b"            0 EMPTY");
-        }
-        Status::Begin => {
-            io::write_all(STDOUT_FILENO, b"            1 BEGIN");
-        }
-        Status::PrepareCommit => {
-            io::write_all(STDOUT_FILENO, b"   2 PREPARE_COMMIT");
-        }
-        Status::PrepareAbort => {
-            io::write_all(STDOUT_FILENO, b"    3 PREPARE_ABORT");
-        }
-        Status::CompleteCommit => {
-            io::write_all(STDOUT_FILENO, b"  4 COMPLETE_COMMIT");
-        }
-        Status::CompleteAbort => {
-            io::write_all(STDOUT_FILENO, b"   5 COMPLETE_ABORT");
-        }
+        Status::Empty => print!(rt; "            0 EMPTY"),
+        Status::Begin => print!(rt; "            1 BEGIN"),
+        Status::PrepareCommit => print!(rt; "   2 PREPARE_COMMIT"),
+        Status::PrepareAbort => print!(rt; "    3 PREPARE_ABORT"),
+        Status::CompleteCommit => print!(rt; "  4 COMPLETE_COMMIT"),
+        Status::CompleteAbort => print!(rt; "   5 COMPLETE_ABORT"),
     }
 }
 
 // Whether the new status may follow the one held.
-fn flag(held: Status, new: Status) {
+fn flag(rt: &impl Print, held: Status, new: Status) -> io::Result<()> {
     if succession::may_follow_status(held, new) {
-        io::write_all(STDOUT_FILENO, b"         may follow");
+        print!(rt; "         may follow")
     } else {
-        io::write_all(STDOUT_FILENO, b"                  -");
+        print!(rt; "                  -")
     }
 }
 
 // The new statuses.
-fn headings() {
-    io::write_all(STDOUT_FILENO, b"                   ");
-    heading(Status::Empty);
-    heading(Status::Begin);
-    heading(Status::PrepareCommit);
-    heading(Status::PrepareAbort);
-    heading(Status::CompleteCommit);
-    heading(Status::CompleteAbort);
-    io::write_all(STDOUT_FILENO, b"\n");
+fn headings(rt: &impl Print) -> io::Result<()> {
+    print!(rt; "                   ")?;
+    heading(rt, Status::Empty)?;
+    heading(rt, Status::Begin)?;
+    heading(rt, Status::PrepareCommit)?;
+    heading(rt, Status::PrepareAbort)?;
+    heading(rt, Status::CompleteCommit)?;
+    heading(rt, Status::CompleteAbort)?;
+    print!(rt; "\n")
 }
 
 // The status held, and its flags.
-fn row(held: Status) {
-    heading(held);
-    flag(held, Status::Empty);
-    flag(held, Status::Begin);
-    flag(held, Status::PrepareCommit);
-    flag(held, Status::PrepareAbort);
-    flag(held, Status::CompleteCommit);
-    flag(held, Status::CompleteAbort);
-    io::write_all(STDOUT_FILENO, b"\n");
+fn row(rt: &impl Print, held: Status) -> io::Result<()> {
+    heading(rt, held)?;
+    flag(rt, held, Status::Empty)?;
+    flag(rt, held, Status::Begin)?;
+    flag(rt, held, Status::PrepareCommit)?;
+    flag(rt, held, Status::PrepareAbort)?;
+    flag(rt, held, Status::CompleteCommit)?;
+    flag(rt, held, Status::CompleteAbort)?;
+    print!(rt; "\n")
 }
 
-fn main() {
-    headings();
-    row(Status::Empty);
-    row(Status::Begin);
-    row(Status::PrepareCommit);
-    row(Status::PrepareAbort);
-    row(Status::CompleteCommit);
-    row(Status::CompleteAbort);
+fn main(rt: HostRuntime) -> io::Result<()> {
+    headings(&rt)?;
+    row(&rt, Status::Empty)?;
+    row(&rt, Status::Begin)?;
+    row(&rt, Status::PrepareCommit)?;
+    row(&rt, Status::PrepareAbort)?;
+    row(&rt, Status::CompleteCommit)?;
+    row(&rt, Status::CompleteAbort)
 }

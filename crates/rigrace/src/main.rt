@@ -2,40 +2,41 @@
 #![tactic(auto)]
 
 use input_lines::Step;
-use libc::STDOUT_FILENO;
+use std::io;
 
 // A longer line is no request.
 const LINE_ROOM: usize = 65536;
 
 // Answers a line.
-fn answer(line: &[u8]) {
+fn answer(rt: &impl Print, line: &[u8]) -> io::Result<()> {
     let mut out = [0u8; race_lines::ANSWER_MAX];
     let written = race_lines::respond(line, &mut out);
     if written <= race_lines::ANSWER_MAX {
-        io::write_all(STDOUT_FILENO, &out[..written]);
+        rt.write_all(&out[..written])?;
     }
+    Ok(())
 }
 
 // Answers what was read. A line that did not fit the buffer is answered as the line `?`: it is no request.
-fn answer_step(buffer: &[u8], step: Step) {
+fn answer_step(rt: &impl Print, buffer: &[u8], step: Step) -> io::Result<()> {
     match step {
-        Step::Line { from, len, rest: _ } => answer(input_lines::part(buffer, from, len)),
-        Step::Long { rest: _ } => answer(b"?"),
-        _ => (),
+        Step::Line { from, len, rest: _ } => answer(rt, input_lines::part(buffer, from, len)),
+        Step::Long { rest: _ } => answer(rt, b"?"),
+        _ => Ok(()),
     }
 }
 
-fn main() {
+fn main(rt: HostRuntime) -> io::Result<()> {
+    let mut input = rt.stdin();
     let mut buffer = [0u8; LINE_ROOM];
     let mut cursor = input_lines::start();
-    let mut turns = u64::MAX;
-    while 0 < turns {
-        let step = input_lines::next(&mut buffer, cursor);
+    for _ in 0..u64::MAX {
+        let step = input_lines::next(&mut input, &mut buffer, cursor)?;
         if input_lines::is_end(step) {
-            return;
+            break;
         }
-        answer_step(&buffer, step);
+        answer_step(&rt, &buffer, step)?;
         cursor = input_lines::behind(step);
-        turns -= 1;
     }
+    Ok(())
 }

@@ -2,8 +2,9 @@
 #![tactic(auto)]
 
 use input_lines::Step;
-use libc::STDOUT_FILENO;
 use session::Session;
+use std::io;
+use std::io::Read;
 
 // "log 8,192 bytes; … 64 entries each": four words an entry, for three partitions.
 const LOG_ROOM: usize = 8192;
@@ -20,60 +21,76 @@ const OUT_ROOM: usize = 2048;
 
 // Answers a line.
 fn answer(
+    rt: &impl Print,
     s: Session,
     line: &[u8],
     log: &mut [u8],
     words: &mut [u64],
     payloads: &mut [u64],
-) -> Session {
+) -> io::Result<Session> {
     let mut out = [0u8; OUT_ROOM];
     let made = replies::respond(s, line, log, words, payloads, &mut out);
     let written = made.written;
     if written <= OUT_ROOM {
-        io::write_all(STDOUT_FILENO, &out[..written]);
+        rt.write_all(&out[..written])?;
     }
-    made.session
+    Ok(made.session)
 }
 
 // Answers what was read. A line that did not fit the buffer is answered as the line `?`: it is no command.
 fn answer_step(
+    rt: &impl Print,
     s: Session,
     buffer: &[u8],
     step: Step,
     log: &mut [u8],
     words: &mut [u64],
     payloads: &mut [u64],
-) -> Session {
+) -> io::Result<Session> {
     match step {
         Step::Line { from, len, rest: _ } => {
             let line = input_lines::part(buffer, from, len);
-            answer(s, line, log, words, payloads)
+            answer(rt, s, line, log, words, payloads)
         }
-        Step::Long { rest: _ } => answer(s, b"?", log, words, payloads),
-        _ => s,
+        Step::Long { rest: _ } => answer(rt, s, b"?", log, words, payloads),
+        _ => Ok(s),
     }
 }
 
 // Reads and answers until there is no more.
-fn run(buffer: &mut [u8], log: &mut [u8], words: &mut [u64], payloads: &mut [u64]) {
+fn run(
+    rt: &impl Print,
+    input: &mut impl Read,
+    buffer: &mut [u8],
+    log: &mut [u8],
+    words: &mut [u64],
+    payloads: &mut [u64],
+) -> io::Result<()> {
     let mut session = session::opened(log, words);
     let mut cursor = input_lines::start();
-    let mut turns = u64::MAX;
-    while 0 < turns {
-        let step = input_lines::next(buffer, cursor);
+    for _ in 0..u64::MAX {
+        let step = input_lines::next(input, buffer, cursor)?;
         if input_lines::is_end(step) {
-            return;
+            break;
         }
-        session = answer_step(session, buffer, step, log, words, payloads);
+        session = answer_step(rt, session, buffer, step, log, words, payloads)?;
         cursor = input_lines::behind(step);
-        turns -= 1;
     }
+    Ok(())
 }
 
-fn main() {
+fn main(rt: HostRuntime) -> io::Result<()> {
+    let mut input = rt.stdin();
     let mut log = [0u8; LOG_ROOM];
     let mut words = [0u64; WORDS_ROOM];
     let mut payloads = [0u64; PAYLOADS];
     let mut buffer = [0u8; LINE_ROOM];
-    run(&mut buffer, &mut log, &mut words, &mut payloads);
+    run(
+        &rt,
+        &mut input,
+        &mut buffer,
+        &mut log,
+        &mut words,
+        &mut payloads,
+    )
 }

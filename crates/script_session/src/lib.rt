@@ -1,8 +1,10 @@
-// A session after a script of command lines, which is read from standard input; no answers are printed.
+// A session after a script of command lines, which is read from an input; no answers are printed.
 #![tactic(auto)]
 
 use input_lines::Step;
 use session::Session;
+use std::io;
+use std::io::Read;
 
 // Performs what was read; a line that did not fit the buffer is no command.
 fn perform_step(
@@ -25,22 +27,21 @@ fn perform_step(
 
 // Reads and performs until there is no more.
 pub fn run_script(
+    input: &mut impl Read,
     buffer: &mut [u8],
     log: &mut [u8],
     words: &mut [u64],
     payloads: &mut [u64],
-) -> Session {
+) -> io::Result<Session> {
     let mut session = session::opened(log, words);
     let mut cursor = input_lines::start();
-    let mut turns = u64::MAX;
-    while 0 < turns {
-        let step = input_lines::next(buffer, cursor);
+    for _ in 0..u64::MAX {
+        let step = input_lines::next(input, buffer, cursor)?;
         if input_lines::is_end(step) {
-            return session;
+            break;
         }
         session = perform_step(session, buffer, step, log, words, payloads);
         cursor = input_lines::behind(step);
-        turns -= 1;
     }
-    session
+    Ok(session)
 }

@@ -6,6 +6,7 @@ ghost use Rattle.std.specs.Prelude.{◌<◌};
 use call_lines::Kind;
 use coordinator::Coordinator;
 use partition::Partition;
+use std::io;
 
 pub const PARTITIONS: usize = 3;
 
@@ -39,74 +40,89 @@ fn with_partition(s: State, index: usize, p: Partition) -> State
 }
 
 // A line with another text of the catalogue.
-fn set_text(s: State, line: &[u8]) -> State {
+fn set_text(rt: &impl Print, s: State, line: &[u8]) -> io::Result<State> {
     let mut text = s.text;
-    let length = call_answers::write_catalogue(s.length, line, &mut text);
+    let length = call_answers::write_catalogue(rt, s.length, line, &mut text)?;
     let mut u = s;
     u.text = text;
     u.length = length;
-    u
+    Ok(u)
 }
 
 // A line with another epoch for the id at a place: calls would take as many turns to get there.
-fn set_epoch(s: State, line: &[u8]) -> State {
+fn set_epoch(rt: &impl Print, s: State, line: &[u8]) -> io::Result<State> {
     let place = call_lines::place(line, 1);
     let epoch = call_lines::signed_16(line, 2);
     let c = s.coordinator;
     if !script_values::may_hold(c, place, epoch) {
-        call_answers::unknown();
-        return s;
+        call_answers::unknown(rt)?;
+        return Ok(s);
     }
-    call_answers::word(line);
-    call_answers::end_line();
-    with_coordinator(s, script_values::with_epoch(c, place, epoch))
+    call_answers::word(rt, line)?;
+    call_answers::end_line(rt)?;
+    Ok(with_coordinator(s, script_values::with_epoch(c, place, epoch)))
 }
 
 // A line with another last sequence for the producer at a place of a partition.
-fn set_sequence(s: State, line: &[u8]) -> State {
+fn set_sequence(rt: &impl Print, s: State, line: &[u8]) -> io::Result<State> {
     let index = call_lines::place(line, 1);
     let place = call_lines::place(line, 2);
     let sequence = call_lines::signed_32(line, 3);
     if PARTITIONS <= index {
-        call_answers::unknown();
-        return s;
+        call_answers::unknown(rt)?;
+        return Ok(s);
     }
     let p = s.partitions[index];
     if !script_values::may_have(p, place, sequence) {
-        call_answers::unknown();
-        return s;
+        call_answers::unknown(rt)?;
+        return Ok(s);
     }
-    call_answers::word(line);
-    call_answers::end_line();
-    with_partition(s, index, script_values::with_sequence(p, place, sequence))
+    call_answers::word(rt, line)?;
+    call_answers::end_line(rt)?;
+    let q = script_values::with_sequence(p, place, sequence);
+    Ok(with_partition(s, index, q))
 }
 
 // A line with a call of the coordinator.
-fn call_coordinator(s: State, kind: Kind, line: &[u8], log: &mut [u8]) -> State {
+fn call_coordinator(
+    rt: &impl Print,
+    s: State,
+    kind: Kind,
+    line: &[u8],
+    log: &mut [u8],
+) -> io::Result<State> {
     let all = s.text;
     let text = input_lines::part(&all, 0, s.length);
     let c = s.coordinator;
-    let made = log_calls::perform(c, kind, line, text, log);
-    with_coordinator(s, made)
+    let made = log_calls::perform(rt, c, kind, line, text, log)?;
+    Ok(with_coordinator(s, made))
 }
 
 // A line with a call of a partition, which is lent these of its words. Only for callers that have an index.
-fn call_lent(s: State, kind: Kind, line: &[u8], index: usize, words: &mut [u64]) -> State
+fn call_lent(
+    rt: &impl Print,
+    s: State,
+    kind: Kind,
+    line: &[u8],
+    index: usize,
+    words: &mut [u64],
+) -> io::Result<State>
     requires { index < 3 }
 {
     let p = s.partitions[index];
     match kind {
         Kind::Read => {
-            word_calls::read(p, line, words);
-            s
+            word_calls::read(rt, p, line, words)?;
+            Ok(s)
         }
         Kind::Words => {
-            call_answers::show_words(line, words);
-            s
+            call_answers::show_words(rt, line, words)?;
+            Ok(s)
         }
         _ => {
             let c = s.coordinator;
-            with_partition(s, index, word_calls::perform(c, p, kind, line, words))
+            let made = word_calls::perform(rt, c, p, kind, line, words)?;
+            Ok(with_partition(s, index, made))
         }
     }
 }
@@ -120,50 +136,62 @@ fn lent_words(kind: Kind, line: &[u8]) -> usize {
 }
 
 // A line with the index of a partition.
-fn call_partition(s: State, kind: Kind, line: &[u8], words: &mut [u64]) -> State {
+fn call_partition(
+    rt: &impl Print,
+    s: State,
+    kind: Kind,
+    line: &[u8],
+    words: &mut [u64],
+) -> io::Result<State> {
     let index = call_lines::place(line, 1);
     let lent = lent_words(kind, line);
     if PARTITIONS <= index {
-        call_answers::unknown();
-        return s;
+        call_answers::unknown(rt)?;
+        return Ok(s);
     }
     if WORDS_ROOM < lent {
-        call_answers::unknown();
-        return s;
+        call_answers::unknown(rt)?;
+        return Ok(s);
     }
     let start = index * WORDS_ROOM;
     let end = start + lent;
     if words.len() < end {
-        return s;
+        return Ok(s);
     }
-    call_lent(s, kind, line, index, &mut words[start..end])
+    call_lent(rt, s, kind, line, index, &mut words[start..end])
 }
 
 // A line that changes no state.
-fn show_line(kind: Kind, line: &[u8], log: &mut [u8]) {
+fn show_line(rt: &impl Print, kind: Kind, line: &[u8], log: &mut [u8]) -> io::Result<()> {
     match kind {
-        Kind::Blank => call_answers::whole(line),
-        Kind::Bytes => call_answers::write_log(line, log),
-        Kind::Log => call_answers::show_log(line, log),
-        _ => call_answers::unknown(),
+        Kind::Blank => call_answers::whole(rt, line),
+        Kind::Bytes => call_answers::write_log(rt, line, log),
+        Kind::Log => call_answers::show_log(rt, line, log),
+        _ => call_answers::unknown(rt),
     }
 }
 
 // Performs a line and writes its answer.
-pub fn perform(s: State, line: &[u8], log: &mut [u8], words: &mut [u64]) -> State {
+pub fn perform(
+    rt: &impl Print,
+    s: State,
+    line: &[u8],
+    log: &mut [u8],
+    words: &mut [u64],
+) -> io::Result<State> {
     let kind = call_lines::kind_of(line);
     match kind {
         Kind::Blank | Kind::Unknown | Kind::Bytes | Kind::Log => {
-            show_line(kind, line, log);
-            s
+            show_line(rt, kind, line, log)?;
+            Ok(s)
         }
-        Kind::Catalogue => set_text(s, line),
-        Kind::Epoch => set_epoch(s, line),
-        Kind::Sequence => set_sequence(s, line),
+        Kind::Catalogue => set_text(rt, s, line),
+        Kind::Epoch => set_epoch(rt, s, line),
+        Kind::Sequence => set_sequence(rt, s, line),
         Kind::Words | Kind::Partition | Kind::Produce | Kind::Marker | Kind::Read => {
-            call_partition(s, kind, line, words)
+            call_partition(rt, s, kind, line, words)
         }
-        _ => call_coordinator(s, kind, line, log),
+        _ => call_coordinator(rt, s, kind, line, log),
     }
 }
 

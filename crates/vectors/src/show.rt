@@ -1,32 +1,28 @@
 // Writes what the proved functions say, a line each, fields parted by a space.
+ghost use Rattle.std.specs.Prelude.{◌<◌, length};
+
 use catalogue::Catalogue;
 use encode::Written;
-use libc::STDOUT_FILENO;
 use record::{Reading, Record};
+use std::io;
 
-fn space() {
-    io::write_all(STDOUT_FILENO, b" ");
+fn space(rt: &impl Print) -> io::Result<()> {
+    print!(rt; " ")
 }
 
-fn line() {
-    io::write_all(STDOUT_FILENO, b"\n");
+fn line(rt: &impl Print) -> io::Result<()> {
+    print!(rt; "\n")
 }
 
-fn number(n: u64) {
-    space();
-    io::print_decimal(STDOUT_FILENO, n);
+fn number(rt: &impl Print, n: u64) -> io::Result<()> {
+    space(rt)?;
+    print!(rt; "{n}")
 }
 
 // A signed number in decimal.
-fn signed(x: i64) {
-    space();
-    let bits = numbers::to_bits(x);
-    if bits < 0x8000_0000_0000_0000 {
-        io::print_decimal(STDOUT_FILENO, bits);
-    } else {
-        io::write_all(STDOUT_FILENO, b"-");
-        io::print_decimal(STDOUT_FILENO, !bits + 1);
-    }
+fn signed(rt: &impl Print, x: i64) -> io::Result<()> {
+    space(rt)?;
+    print!(rt; "{x}")
 }
 
 fn wide(b: u8) -> u64 {
@@ -34,144 +30,133 @@ fn wide(b: u8) -> u64 {
 }
 
 // The first n bytes in hexadecimal.
-fn hex(s: &[u8], n: usize) {
-    space();
-    let mut i: usize = 0;
-    while i < n {
-        if i < s.len() {
-            io::print_hex(STDOUT_FILENO, wide(s[i]), 2);
-        }
-        i += 1;
+fn hex(rt: &impl Print, s: &[u8], n: usize) -> io::Result<()> {
+    space(rt)?;
+    for b in s.iter().take(n) {
+        print!(rt; "{:02x}", wide(*b))?;
     }
+    Ok(())
 }
 
 // The refusal of a catalogue's text, and its positions.
-pub fn parsed(text: &[u8]) {
+pub fn parsed(rt: &impl Print, text: &[u8]) -> io::Result<()> {
     let p = catalogue::parse(text);
-    io::write_all(STDOUT_FILENO, b"catalogue");
-    number(p.refusal as u64);
+    print!(rt; "catalogue")?;
+    number(rt, p.refusal as u64)?;
     let c = p.catalogue;
-    number(c.all);
-    line();
+    number(rt, c.all)?;
+    line(rt)
 }
 
 // The fields of a record, the status by its code.
-fn fields(r: Record) {
+fn fields(rt: &impl Print, r: Record) -> io::Result<()> {
     let name = r.name;
-    hex(&name, record::NAME_MAX);
-    signed(r.pid);
-    signed(numbers::wide_i16(r.epoch));
-    signed(numbers::wide_i32(r.timeout));
+    hex(rt, &name, record::NAME_MAX)?;
+    signed(rt, r.pid)?;
+    signed(rt, numbers::wide_i16(r.epoch))?;
+    signed(rt, numbers::wide_i32(r.timeout))?;
     let status = r.status;
-    signed(numbers::wide_i8(record::status_code(status)));
-    number(r.joined);
-    signed(r.updated);
-    signed(r.start);
+    signed(rt, numbers::wide_i8(record::status_code(status)))?;
+    number(rt, r.joined)?;
+    signed(rt, r.updated)?;
+    signed(rt, r.start)
 }
 
 // What stands at a place of a log, with the record if it is whole.
-fn reading(c: Catalogue, log: &[u8], end: usize, at: usize) {
+fn reading(rt: &impl Print, c: Catalogue, log: &[u8], end: usize, at: usize) -> io::Result<()> {
     let found = decode::frame_at(c, log, end, at);
     let verdict = found.reading;
     match verdict {
         Reading::Whole => {
-            io::write_all(STDOUT_FILENO, b"whole");
-            number(found.next as u64);
-            fields(found.found);
+            print!(rt; "whole")?;
+            number(rt, found.next as u64)?;
+            fields(rt, found.found)?;
         }
-        Reading::Torn => {
-            io::write_all(STDOUT_FILENO, b"torn");
-        }
-        Reading::Bad => {
-            io::write_all(STDOUT_FILENO, b"bad");
-        }
+        Reading::Torn => print!(rt; "torn")?,
+        Reading::Bad => print!(rt; "bad")?,
     }
-    line();
+    line(rt)
 }
 
 // The frame of a record, written into this buffer: the place after it, its bytes, and how it reads back.
-fn written(c: Catalogue, r: Record, out: &mut [u8]) {
+fn written(rt: &impl Print, c: Catalogue, r: Record, out: &mut [u8]) -> io::Result<()> {
     let Written::Next(next) = encode::encode(c, r, out, 0) else {
-        io::write_all(STDOUT_FILENO, b"no room\n");
-        return;
+        return print!(rt; "no room\n");
     };
-    io::write_all(STDOUT_FILENO, b"frame");
-    number(next as u64);
-    hex(out, next);
-    line();
-    reading(c, out, next, 0);
+    print!(rt; "frame")?;
+    number(rt, next as u64)?;
+    hex(rt, out, next)?;
+    line(rt)?;
+    reading(rt, c, out, next, 0)
 }
 
 // The frame of a record in a buffer that holds any frame.
-pub fn frame(c: Catalogue, r: Record) {
+pub fn frame(rt: &impl Print, c: Catalogue, r: Record) -> io::Result<()> {
     let mut buffer = [0u8; record::FRAME_MAX];
-    written(c, r, &mut buffer);
+    written(rt, c, r, &mut buffer)
 }
 
 // One letter for what stands at the front of a log: w for whole, t for torn, b for bad.
-fn letter(c: Catalogue, log: &[u8], end: usize) {
+fn letter(rt: &impl Print, c: Catalogue, log: &[u8], end: usize) -> io::Result<()> {
     let found = decode::frame_at(c, log, end, 0);
     let verdict = found.reading;
     match verdict {
-        Reading::Whole => {
-            io::write_all(STDOUT_FILENO, b"w");
-        }
-        Reading::Torn => {
-            io::write_all(STDOUT_FILENO, b"t");
-        }
-        Reading::Bad => {
-            io::write_all(STDOUT_FILENO, b"b");
-        }
+        Reading::Whole => print!(rt; "w"),
+        Reading::Torn => print!(rt; "t"),
+        Reading::Bad => print!(rt; "b"),
     }
+}
+
+// A letter for each value of the byte at i.
+fn letters(rt: &impl Print, c: Catalogue, frame: &mut [u8], end: usize, i: usize) -> io::Result<()>
+    requires { i < length frame.old }
+{
+    for value in 0..=u8::MAX {
+        frame[i] = value;
+        letter(rt, c, frame, end)?;
+    }
+    line(rt)
 }
 
 // A letter for each value of the byte at i, and the frame as it was.
-fn change(c: Catalogue, frame: &mut [u8], end: usize, i: usize) {
+fn change(rt: &impl Print, c: Catalogue, frame: &mut [u8], end: usize, i: usize) -> io::Result<()> {
     if frame.len() <= i {
-        return;
+        return Ok(());
     }
     let old = frame[i];
-    let mut value: usize = 0;
-    while value < 256 {
-        frame[i] = value as u8;
-        letter(c, frame, end);
-        value += 1;
-    }
+    let printed = letters(rt, c, frame, end, i);
     frame[i] = old;
-    line();
+    printed
 }
 
 // A letter for each length that a frame may be cut to, the whole frame last.
-fn cut(c: Catalogue, frame: &[u8], next: usize) {
-    let mut end: usize = 0;
-    while end < next {
-        letter(c, frame, end);
-        end += 1;
+fn cut(rt: &impl Print, c: Catalogue, frame: &[u8], next: usize) -> io::Result<()> {
+    for end in 0..next {
+        letter(rt, c, frame, end)?;
     }
-    letter(c, frame, next);
-    line();
+    letter(rt, c, frame, next)?;
+    line(rt)
 }
 
 // Every change of one byte, a line for each byte.
-fn change_all(c: Catalogue, frame: &mut [u8], next: usize) {
-    let mut i: usize = 0;
-    while i < next {
-        change(c, frame, next, i);
-        i += 1;
+fn change_all(rt: &impl Print, c: Catalogue, frame: &mut [u8], next: usize) -> io::Result<()> {
+    for i in 0..next {
+        change(rt, c, frame, next, i)?;
     }
+    Ok(())
 }
 
 // A record's frame, cut and changed in every way.
-fn damage(c: Catalogue, r: Record, out: &mut [u8]) {
+fn damage(rt: &impl Print, c: Catalogue, r: Record, out: &mut [u8]) -> io::Result<()> {
     let Written::Next(next) = encode::encode(c, r, out, 0) else {
-        return;
+        return Ok(());
     };
-    cut(c, out, next);
-    change_all(c, out, next);
+    cut(rt, c, out, next)?;
+    change_all(rt, c, out, next)
 }
 
 // The same in a buffer that holds any frame.
-pub fn damaged(c: Catalogue, r: Record) {
+pub fn damaged(rt: &impl Print, c: Catalogue, r: Record) -> io::Result<()> {
     let mut buffer = [0u8; record::FRAME_MAX];
-    damage(c, r, &mut buffer);
+    damage(rt, c, r, &mut buffer)
 }
