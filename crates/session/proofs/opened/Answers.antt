@@ -1,0 +1,7 @@
+-- `session::opened` meets its contract.
+use Rattle.session.proofs.CommandSteps.{opened-as}
+use borrow.Author.Rules.{rules}
+use Rattle.session.proofs.opened.Goals as goal
+
+pub returns : goal.returns
+returns c = opened-as _ _ c.opening-made.ensures c.open_partition-empty.ensures
