@@ -30,7 +30,7 @@ loop-place-preserved c =
     let k = c.loop-place.place in
     let t = default a.before.rows k _ free_row (omega (arith, sized-before (goal.at.loop-place-preserved c).Start)) in
     elim c.if-is_followed.branch [
-      | then-is_followed w ↦ (omega arith, below-followed k a.flushed a.before a.after c.loop-place.set c.loop-place.invariant.1 _ t _ (default a.after.rows k _ free_row (omega (arith, sized-after (goal.at.loop-place-preserved c).Start))) (sym c.is_followed.ensures ∙ w.if-is_followed.true) c.if-is_followed.set (w.set-is ∙ w.insert.ensures))
+      | then-is_followed w ↦ (omega arith, below-followed k a.flushed a.before a.after c.loop-place.set c.loop-place.invariant.1 _ t _ (default a.after.rows k _ free_row (omega (arith, sized-after (goal.at.loop-place-preserved c).Start))) (sym c.is_followed.ensures ∙ w.if-is_followed.true) c.if-is_followed.set (w.set-is ∙ w.with_ending-set.ensures))
       | else-is_followed w ↦ (omega arith, below_left k a.flushed a.before a.after c.loop-place.set c.loop-place.invariant.1 _ t (sym c.is_followed.ensures ∙ w.if-is_followed.false) c.if-is_followed.set w.set-is)
     ]
 
