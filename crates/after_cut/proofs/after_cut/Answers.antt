@@ -6,7 +6,6 @@ use Rattle.command.specs.declared.Command.TheVariants.{Cut}
 use Rattle.session.specs.Memory.{memory}
 use Rattle.session.specs.Commands.{performed}
 use Rattle.after_cut.specs.AfterCut.{carries_max, carried_all}
-use borrow.Author.Rules.{rules}
 use Rattle.after_cut.proofs.after_cut.Goals as goal
 
 pub returns : goal.returns

@@ -1,12 +1,8 @@
 -- `after_cut::carry_all` meets its contract. The loop's invariant: what is left of the rounds leads to the same memory.
-use mathlib.Core.Path.{◌≡◌, refl, sym, ◌∙◌}
+use mathlib.Core.Path.{refl, sym, ◌∙◌}
 use native.Mathlib.Omega.{arith}
-use lib.ListN.{length}
-use borrow.Author.Rules.{rules}
-use borrow.Author.Tests.{not-true, not-false}
 use Rattle.after_cut.proofs.Rounds.{carried_none, carried-end, carried_on}
 use Rattle.session.specs.Memory.{memory}
-use Rattle.after_cut.specs.AfterCut.{carries_max, carried_all}
 use Rattle.after_cut.proofs.carry_all.Goals as goal
 
 pub loop-turns-init : goal.loop-turns-init

@@ -4,7 +4,6 @@ use mathlib.Core.List.{[]}
 use Rattle.command.specs.declared.Command.TheVariants.{Flush}
 use Rattle.session.specs.Memory.{Memory}
 use Rattle.session.specs.Commands.{performed}
-use borrow.Author.Rules.{rules}
 use Rattle.after_cut.proofs.carry_one.Goals as goal
 
 pub returns : goal.returns

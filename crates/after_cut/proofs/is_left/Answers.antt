@@ -1,7 +1,6 @@
 -- `after_cut::is_left` meets its contract.
 use mathlib.Core.Path.{ap, ◌∙◌}
 use Rattle.after_cut.specs.AfterCut.{is_order}
-use borrow.Author.Rules.{rules}
 use Rattle.after_cut.proofs.is_left.Goals as goal
 
 pub returns : goal.returns

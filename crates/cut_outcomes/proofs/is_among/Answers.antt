@@ -1,11 +1,8 @@
 -- `cut_outcomes::is_among` meets its contract. The loop's invariant: the outcome is none of those passed.
-use mathlib.Core.Path.{◌≡◌, refl, sym, ◌∙◌}
-use Prim.Native.Nat.{◌-◌, ◌≤◌}
+use mathlib.Core.Path.{refl, sym, ◌∙◌}
+use Prim.Native.Nat.{◌-◌}
 use native.Mathlib.Omega.{arith}
-use lib.ListN.{length, drop}
-use borrow.Author.Rules.{rules}
 use Rattle.cut_outcomes.proofs.Laws.{among-here, among-on, among-end}
-use Rattle.answers.specs.Refusals.{among}
 use Rattle.cut_outcomes.proofs.is_among.Goals as goal
 
 pub loop-i-init : goal.loop-i-init

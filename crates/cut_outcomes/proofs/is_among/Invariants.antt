@@ -1,10 +1,7 @@
 -- `cut_outcomes::is_among`: what its loops keep. The loop's invariant: the outcome is none of those passed.
-use mathlib.Core.Path.{◌≡◌, refl, sym, ◌∙◌}
+use mathlib.Core.Path.{◌≡◌}
 use Prim.Native.Nat.{◌-◌, ◌≤◌}
-use native.Mathlib.Omega.{arith}
 use lib.ListN.{length, drop}
-use borrow.Author.Rules.{rules}
-use Rattle.cut_outcomes.proofs.Laws.{among-here, among-on, among-end}
 use Rattle.answers.specs.Refusals.{among}
 use Rattle.cut_outcomes.proofs.is_among.Given as goal
 

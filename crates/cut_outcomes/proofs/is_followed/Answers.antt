@@ -2,7 +2,6 @@
 use native.Mathlib.Omega.{arith}
 use borrow.Author.Tests.{lt-ltb, le-ltb}
 use Rattle.cut_outcomes.specs.Outcomes.{followed}
-use borrow.Author.Rules.{rules}
 use Rattle.cut_outcomes.proofs.is_followed.Goals as goal
 
 pub returns-then-flushed-row : goal.returns-then-flushed-row

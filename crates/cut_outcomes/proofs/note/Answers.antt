@@ -2,7 +2,6 @@
 use mathlib.Core.Path.{sym, ◌∙◌}
 use native.Mathlib.Omega.{arith}
 use lib.Seq.{length-take-le}
-use borrow.Author.Rules.{rules}
 use Rattle.cut_outcomes.proofs.Laws.{noted-known, noted-new}
 use Rattle.cut_outcomes.proofs.note.Goals as goal
 

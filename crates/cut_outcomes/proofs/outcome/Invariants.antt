@@ -1,14 +1,6 @@
 -- `cut_outcomes::outcome`: what its loops keep. The loop's invariant: the set is the outcome at the places passed.
-use mathlib.Core.Path.{◌≡◌, refl, ap, sym, ◌∙◌}
-use mathlib.Core.Logic.{⊎_elim}
-use Prim.Native.Nat.{ℕ, ◌-◌, ◌≤◌}
-use native.Mathlib.Omega.{arith}
-use lib.ListN.{length}
-use Rattle.numbers.proofs.Arrays.{length-mapped}
-use Rattle.search.proofs.Laws.{default}
-use Rattle.row.specs.Row.{free_row}
-use Rattle.cut_outcomes.proofs.Laws.{below-followed, below_left}
-use borrow.Author.Rules.{rules}
+use mathlib.Core.Path.{◌≡◌}
+use Prim.Native.Nat.{◌-◌, ◌≤◌}
 use Rattle.answers.specs.Limits.{places}
 use Rattle.cut_outcomes.specs.Outcomes.{outcome_below}
 use Rattle.cut_outcomes.proofs.outcome.Given as goal

@@ -1,5 +1,4 @@
 -- `cut_outcomes::with_ending` meets its contract.
-use borrow.Author.Rules.{rules}
 use Rattle.cut_outcomes.proofs.with_ending.Goals as goal
 
 pub returns-in-CompleteCommit : goal.returns-in-CompleteCommit

@@ -1,6 +1,5 @@
 -- `replies::answer_rendered` meets its contract.
 use borrow.Author.Tests.{eq-eqb, ne_eqb}
-use borrow.Author.Rules.{rules}
 use Rattle.replies.proofs.answer_rendered.Goals as goal
 
 pub returns-then-response-ne0 : goal.returns-then-response-ne0

@@ -1,6 +1,5 @@
 -- `replies::has_room_lem` meets its contract.
 use Rattle.replies.proofs.Room.{room-short, room-tested}
-use borrow.Author.Rules.{rules}
 use Rattle.replies.proofs.has_room.Goals as goal
 
 pub returns-then-room : goal.returns-then-room

@@ -3,7 +3,6 @@ use Prim.Native.Nat.{ℕ}
 use mathlib.Core.Path.{ap}
 use lib.Dec.{ltb}
 use Rattle.command.specs.Limits.{commands}
-use borrow.Author.Rules.{rules}
 use Rattle.replies.proofs.is_command.Goals as goal
 
 pub returns : goal.returns

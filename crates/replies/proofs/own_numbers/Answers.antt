@@ -1,7 +1,6 @@
 -- `replies::own_numbers` meets its contract.
 use mathlib.Core.Path.{sym, ap}
 use Rattle.replies.specs.Rendering.{own_numbers}
-use borrow.Author.Rules.{rules}
 use Rattle.replies.proofs.own_numbers.Goals as goal
 
 pub returns-in-Place : goal.returns-in-Place

@@ -1,6 +1,5 @@
 -- `replies::payloads_rendered` meets its contract.
 use borrow.Author.Tests.{eq-eqb, ne_eqb}
-use borrow.Author.Rules.{rules}
 use Rattle.replies.proofs.payloads_rendered.Goals as goal
 
 pub returns-then-count-eq0 : goal.returns-then-count-eq0

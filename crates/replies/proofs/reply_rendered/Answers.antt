@@ -1,10 +1,8 @@
 -- `replies::reply_rendered` meets its contract.
 use mathlib.Core.Bool.{Bool}
 use mathlib.Core.Path.{sym, ap, ◌∙◌}
-use borrow.Author.Tests.{not-true, not-false}
 use Rattle.listing.specs.declared.Reply.TheVariants.{Answered}
 use Rattle.replies.specs.Rendering.{answer_rendered}
-use borrow.Author.Rules.{rules}
 use Rattle.replies.proofs.reply_rendered.Goals as goal
 
 pub returns-then-not-is_command : goal.returns-then-not-is_command

@@ -3,10 +3,9 @@ use lib.ListN.{length}
 use Rattle.replies.specs.Reply.{room_for}
 use mathlib.Core.Path.{sym, ◌∙◌}
 use native.Mathlib.Omega.{arith}
-use borrow.Author.Tests.{leb-true, not-true, not-false}
+use borrow.Author.Tests.{leb-true}
 use Rattle.session.specs.Memory.{memory}
 use Rattle.replies.proofs.Room.{too_short, answered-line}
-use borrow.Author.Rules.{rules}
 use Rattle.replies.proofs.respond.Goals as goal
 
 pub returns-then-not-has_room : goal.returns-then-not-has_room

@@ -1,7 +1,6 @@
 -- `replies::write_reply` meets its contract.
 use mathlib.Core.Path.{sym, ◌∙◌}
 use Rattle.replies.proofs.Lines.{wrote-line, own-listed, lent-listed}
-use borrow.Author.Rules.{rules}
 use Rattle.replies.proofs.write_reply.Goals as goal
 
 pub returns-then-is_own : goal.returns-then-is_own

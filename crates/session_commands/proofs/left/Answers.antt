@@ -4,7 +4,6 @@ use mathlib.Core.Path.{refl, ap, ◌∙◌}
 use mathlib.Core.List.{[], ◌∷◌}
 use lib.IntN.{pos}
 use Rattle.answers.specs.Answers.{accepted}
-use borrow.Author.Rules.{rules}
 use Rattle.session_commands.proofs.left.Goals as goal
 
 pub returns : goal.returns

@@ -6,7 +6,7 @@ use mir.Syntax.{w16, w32, w64}
 use mir.Val.{to_z, of_z}
 use Rattle.command.specs.declared.Command.TheVariants.{Put, Carry, Read, Left}
 use Rattle.server.specs.Calls.{produce_call}
-use Rattle.session.specs.Memory.{Memory, memory, index_of}
+use Rattle.session.specs.Memory.{memory, index_of}
 use Rattle.session.specs.Commands.{called, performed}
 use Rattle.session.proofs.CommandSteps.{performed-as, on-log-as, named-as, same-put}
 use borrow.Author.Rules.{rules}

@@ -1,9 +1,7 @@
 -- `session_commands::read` meets its contract.
 use mathlib.Core.Path.{sym, ◌∙◌}
-use borrow.Author.Tests.{not-true, not-false}
 use Rattle.session.specs.Memory.{index_of}
 use Rattle.session.proofs.CommandSteps.{read-performs}
-use borrow.Author.Rules.{rules}
 use Rattle.session_commands.proofs.read.Goals as goal
 
 pub returns-then-not-member : goal.returns-then-not-member
