@@ -36,7 +36,7 @@ use Rattle.log_reader.specs.Records.{table_of}
 use Rattle.coordinator.specs.declared.Coordinator.{Coordinator}
 use Rattle.partition.specs.Limits.{entry_words}
 use Rattle.partition.specs.Marker.{marker_tests, closed, marker_entry, close_transaction, marker}
-use Rattle.partition.specs.Partition.{admits, producer_at, no_producer, note, write, after as partitionAfter}
+use Rattle.partition.specs.Partition.{admits, producer_at, no_producer, note, write, after as partition_after}
 use Rattle.partition.specs.declared.Partition.{Partition}
 use Rattle.partition.specs.declared.Producer.{Producer}
 use Rattle.partition.proofs.Laws.{entry-fits}
@@ -187,7 +187,7 @@ module _ (w : World) (i : Invariant w) (s : Coordinator) (u : w.phase ≡ up s) 
       leader-preserves w i x below _ (to_acknowledge n o) h still i.offsets i.log-side i.acks
       (record {
         words = (i.leaders x).words;
-        rows = rows_same c h i.of-history x p (i.leaders x).rows (partitionAfter (note (to_nat o.coordinator) k0 (producer_at p k0)) p)
+        rows = rows_same c h i.of-history x p (i.leaders x).rows (partition_after (note (to_nat o.coordinator) k0 (producer_at p k0)) p)
             (λ k. ap (λ (l : List Producer). get_or l k no_producer) (set-get_or p.producers k0 no_producer)) (omega arith);
         coordinator = subst (λ (y : Phase). to_nat o.coordinator ≤ epoch_of y) (sym u) (omega (arith, coordinator-is));
       })
@@ -223,7 +223,7 @@ module _ (w : World) (i : Invariant w) (s : Coordinator) (u : w.phase ≡ up s) 
         (record {
           words = (i.leaders x).words;
           rows = rows-noted c h i.of-history o r prepare-of.there f k0 prepare-of.place x p (i.leaders x).rows refl
-              (partitionAfter (note (to_nat o.coordinator) k0 q) p) q here others q-shut q-pid q-epoch (omega arith) d;
+              (partition_after (note (to_nat o.coordinator) k0 q) p) q here others q-shut q-pid q-epoch (omega arith) d;
           coordinator = subst (λ (y : Phase). to_nat o.coordinator ≤ epoch_of y) (sym u) (omega (arith, coordinator-is));
         })
         (λ y m. i.leaders y)
@@ -243,7 +243,7 @@ module _ (w : World) (i : Invariant w) (s : Coordinator) (u : w.phase ≡ up s) 
         (record {
           words = new-words;
           rows = rows-marked c h i.of-history o r prepare-of.there f k0 prepare-of.place x p (i.leaders x).rows refl
-              (partitionAfter (write (to_nat o.coordinator) k0 q four) p) q here others q-shut q-pid q-epoch (omega arith);
+              (partition_after (write (to_nat o.coordinator) k0 q four) p) q here others q-shut q-pid q-epoch (omega arith);
           coordinator = subst (λ (y : Phase). to_nat o.coordinator ≤ epoch_of y) (sym u) (omega (arith, coordinator-is));
         })
         (λ y m. record {

@@ -16,7 +16,7 @@ use Rattle.table.specs.Table.{row_at, place_of}
 use Rattle.log_reader.specs.Records.{frames_of, table_of, whole_in}
 use Rattle.log_reader.specs.Read.{log_read}
 use Rattle.log_reader.proofs.RecordLaws.{table-length}
-use Rattle.coordinator.specs.Coordinator.{log_end, unflushed, Action, keep, advance, append, acknowledge as acknowledgeAt, flush_to, appended, acknowledged, after, log_after}
+use Rattle.coordinator.specs.Coordinator.{log_end, unflushed, Action, keep, advance, append, acknowledge as acknowledge_at, flush_to, appended, acknowledged, after, log_after}
 use Rattle.coordinator.specs.Open.{opening, taken_over}
 use Rattle.coordinator.specs.declared.Coordinator.{Coordinator}
 use Rattle.coordinator.specs.declared.OpenedLog.{OpenedLog}
@@ -43,7 +43,7 @@ unfolding records_of
 contents-after keep s h = refl
 contents-after (advance clock) s h = refl
 contents-after (append place row) s h = refl
-contents-after (acknowledgeAt place position) s h = refl
+contents-after (acknowledge_at place position) s h = refl
 contents-after (flush_to n) s h = refl
 
 flushed-after : (a : Action) (s : Coordinator) (h : History) → s.flushed ≡ flushed_of h → (after a s).flushed ≡ flushed_of (history_after a s h)
@@ -51,7 +51,7 @@ unfolding flushed_of appended acknowledged
 flushed-after keep s h e = e
 flushed-after (advance clock) s h e = e
 flushed-after (append place row) s h e = e
-flushed-after (acknowledgeAt place position) s h e = e
+flushed-after (acknowledge_at place position) s h e = e
 flushed-after (flush_to n) s h e = refl
 
 -- a record of a name may be appended: its latest one is flushed, and if that is a prepare nothing of the name is open
@@ -63,7 +63,7 @@ abbrev pub MayAppend : Coordinator → History → Action → Type 0
 MayAppend s h keep = Unit {0}
 MayAppend s h (advance clock) = Unit {0}
 MayAppend s h (append place row) = MayAppendOf s h row.name
-MayAppend s h (acknowledgeAt place position) = Unit {0}
+MayAppend s h (acknowledge_at place position) = Unit {0}
 MayAppend s h (flush_to n) = Unit {0}
 
 module _ (c : Catalogue) (log : List ℕ) (s : Coordinator) (h : History) (u : UpLog c log s h) (t : HistoryInvariant c h) where
@@ -78,7 +78,7 @@ module _ (c : Catalogue) (log : List ℕ) (s : Coordinator) (h : History) (u : U
   up-extends keep l w = still
   up-extends (advance clock) l w = still
   up-extends (append place row) l m = more still (append-may c log s h u t place row l m.flushed m.nothing-open)
-  up-extends (acknowledgeAt place position) l w = still
+  up-extends (acknowledge_at place position) l w = still
   up-extends (flush_to n) (rises, within) w = more {e = log_flushed n} still (subst (λ (k : ℕ). k ≤ n) u.flushed rises)
 
   -- ---- a cut

@@ -17,7 +17,7 @@ use Rattle.row.specs.declared.Row.{Row}
 use Rattle.table.specs.Table.{place_for, place_of, row_at}
 use Rattle.table.proofs.Records.{come-place}
 use Rattle.table.proofs.Unacknowledged.{unacknowledged, plain-place-for}
-use Rattle.coordinator.specs.Coordinator.{log_end, row_frame, Action, keep, advance, append, acknowledge as acknowledgeAt, flush_to, acknowledged, after}
+use Rattle.coordinator.specs.Coordinator.{log_end, row_frame, Action, keep, advance, append, acknowledge as acknowledge_at, flush_to, acknowledged, after}
 use Rattle.coordinator.specs.declared.Coordinator.{Coordinator}
 use Rattle.coordinator.specs.Calls.{CoordinatorCall, call_typed, action_of}
 use Rattle.writable_logs.proofs.Decisions.{Decided, by_call}
@@ -103,7 +103,7 @@ entries-after : (a : Action) (s : Coordinator) (h : History) → entries_of (his
 entries-after keep s h = refl
 entries-after (advance clock) s h = refl
 entries-after (append place row) s h = same_entries (record_appended (record_of row) (log_end s + length (row_frame s row))) h refl
-entries-after (acknowledgeAt place position) s h = refl
+entries-after (acknowledge_at place position) s h = refl
 entries-after (flush_to n) s h = same_entries (log_flushed n) h refl
 
 -- what is acknowledged is closed
@@ -111,7 +111,7 @@ abbrev pub AcknowledgesClosed : Catalogue → Coordinator → History → Action
 AcknowledgesClosed c s h keep = Unit {0}
 AcknowledgesClosed c s h (advance clock) = Unit {0}
 AcknowledgesClosed c s h (append place row) = Unit {0}
-AcknowledgesClosed c s h (acknowledgeAt place position) = AcksAgree c h (acknowledged s place position)
+AcknowledgesClosed c s h (acknowledge_at place position) = AcksAgree c h (acknowledged s place position)
 AcknowledgesClosed c s h (flush_to n) = Unit {0}
 
 module _ (w : World) (i : Invariant w) where
@@ -190,7 +190,7 @@ module _ (w : World) (i : Invariant w) where
           rows = rows_append c h i.of-history x (leader_at w x).partition a.rows (record_of row) end (append-may c w.log s h log-of i.of-history place row l m.flushed m.nothing-open);
           coordinator = a.coordinator;
         }
-    leaders-after (acknowledgeAt place position) l k x = leaders-of x
+    leaders-after (acknowledge_at place position) l k x = leaders-of x
     leaders-after (flush_to n) (rises, within) k x =
         leader-unwritten c h i.of-history (log_flushed n) (flush-writes-nothing h n (subst (λ (m : ℕ). m ≤ n) log-of.flushed rises)) (λ y. refl) s.epoch x (leader_at w x) (leaders-of x)
 
@@ -200,7 +200,7 @@ module _ (w : World) (i : Invariant w) where
     acks-after (append place row) l m n =
         acks-appended c h i.of-history s acks-of place row (append-inside place row l) l.none-acknowledged
         (subst (λ (y : Catalogue). well_formed y (record_of row) ≡ true) log-of.written.catalogue-is l.formed) (append-may c w.log s h log-of i.of-history place row l m.flushed m.nothing-open)
-    acks-after (acknowledgeAt place position) l k n = n
+    acks-after (acknowledge_at place position) l k n = n
     acks-after (flush_to n) l k m =
         acks-rows c (log_flushed n ∷ h) s (after (flush_to n) s) (λ j. refl)
         (acks-kept c h s (log_flushed n) (λ x k b o. none-open-kept c h (log_flushed n) refl (λ position pid. refl) (flush-records h n) x k o) acks-of)
@@ -231,14 +231,14 @@ module _ (w : World) (i : Invariant w) where
     flushed-first-may-append keep k = tt
     flushed-first-may-append (advance clock) k = tt
     flushed-first-may-append (append place row) k = record { flushed = k.flushed; nothing-open = λ p. not-both k.unprepared p }
-    flushed-first-may-append (acknowledgeAt place position) k = tt
+    flushed-first-may-append (acknowledge_at place position) k = tt
     flushed-first-may-append (flush_to n) k = tt
 
     flushed-first-acknowledges : (a : Action) → FlushedFirst s a → AcknowledgesClosed c s h a
     flushed-first-acknowledges keep k = tt
     flushed-first-acknowledges (advance clock) k = tt
     flushed-first-acknowledges (append place row) k = tt
-    flushed-first-acknowledges (acknowledgeAt place position) k = absurd k
+    flushed-first-acknowledges (acknowledge_at place position) k = absurd k
     flushed-first-acknowledges (flush_to n) k = tt
 
     pub call-preserves : (call : CoordinatorCall) → call_typed call ≡ true → is_ack call ≡ false → Preserves w (coordinator_does (action_of call s (length w.log)) s w)

@@ -40,7 +40,7 @@ use Rattle.coordinator.specs.declared.Coordinator.{Coordinator}
 use Rattle.coordinator.proofs.Held.{held-name, held-row}
 use Rattle.partition.specs.Append.{produced, data_entry}
 use Rattle.partition.specs.Limits.{entry_words}
-use Rattle.partition.specs.Partition.{producer_at, no_producer, entry, Action as PartitionAction, keep as keepPartition, write, after as partitionAfter}
+use Rattle.partition.specs.Partition.{producer_at, no_producer, entry, Action as PartitionAction, keep as keep_partition, write, after as partition_after}
 use Rattle.partition.specs.declared.Partition.{Partition}
 use Rattle.partition.specs.declared.Producer.{Producer}
 use Rattle.partition.proofs.Fits.{data-fits}
@@ -200,7 +200,7 @@ module _ (w : World) (i : Invariant w) (s : Coordinator) (u : w.phase ≡ up s) 
         holding = ltb-true k0 places t.held
 
     abbrev p' : Partition
-    p' = partitionAfter (write p.coordinator k0 q four) p
+    p' = partition_after (write p.coordinator k0 q four) p
 
     rows-here : producer_at p' k0 ≡ q
     rows-here = get_or-set_same p.producers k0 q no_producer place_inside
@@ -243,5 +243,5 @@ module _ (w : World) (i : Invariant w) (s : Coordinator) (u : w.phase ≡ up s) 
   pub produce-preserves : Preserves w (leader_does x (produce s p (length words) name pid epoch x sequence payload).action (entry_written e) nothing w)
   unfolding produce
   produce-preserves =
-      unless-does (first_refusal (produce_tests s p (length words) name pid epoch x sequence)) Refused keepPartition _
+      unless-does (first_refusal (produce_tests s p (length words) name pid epoch x sequence)) Refused keep_partition _
       (λ (a : PartitionAction). Preserves w (leader_does x a (entry_written e) nothing w)) (same-leader-preserves w i x) (λ z. writes (produce-passed s p (length words) name pid epoch x sequence payload z))

@@ -49,7 +49,7 @@ use Rattle.coordinator.proofs.OpenCases.{open-number, opening-taken}
 use Rattle.writable_logs.specs.Writer.{opening_typed}
 use Rattle.writable_logs.proofs.Written.{written-admits}
 use Rattle.partition.specs.Marker.{marker_tests, marker}
-use Rattle.partition.specs.Partition.{admits as partitionAdmits, Action as PartitionAction, keep as keepPartition, after as partitionAfter}
+use Rattle.partition.specs.Partition.{admits as partition_admits, Action as PartitionAction, keep as keep_partition, after as partition_after}
 use Rattle.partition.proofs.MarkerCases.{marker-passed, marker-refused}
 use Rattle.partition.proofs.Reserve.{admits-length}
 use Rattle.server.specs.Produce.{produce_tests, produce}
@@ -144,7 +144,7 @@ module _ (w : World) (i : Invariant w) (s : Coordinator) (u : w.phase ≡ up s) 
       elsewhere-cases s n not-admitted (λ (a : Action). Preserves w (coordinator_elsewhere a s w)) same-state (λ m. subst (Preserves w) (sym (flush-elsewhere m s w)) (call-preserves w i s u (flush_call m) refl refl))
 
 module _ (w : World) (i : Invariant w) (x n : ℕ) (d : n ≡ length (leader_at w x).words → ⊥) where
-  words-not-admitted : partitionAdmits (leader_at w x).partition n ≡ false
+  words-not-admitted : partition_admits (leader_at w x).partition n ≡ false
   words-not-admitted =
       let o = own_at w i.own x in
       admits-length (leader_at w x).partition o.reserved n ∙ ne_eqb n (leader_at w x).partition.room (λ z. d (z ∙ sym o.room))
@@ -153,15 +153,15 @@ module _ (w : World) (i : Invariant w) (x n : ℕ) (d : n ≡ length (leader_at 
   same-partition = same-leader-preserves w i x
 
   pub produce-elsewhere-preserves : (s : Coordinator) (name : List ℕ) (pid epoch : ℤ) (position : ℕ) (sequence : ℤ) (payload : ℕ)
-      → Preserves w (with_partition w x (partitionAfter (produce s (leader_at w x).partition n name pid epoch position sequence payload).action (leader_at w x).partition) nothing)
+      → Preserves w (with_partition w x (partition_after (produce s (leader_at w x).partition n name pid epoch position sequence payload).action (leader_at w x).partition) nothing)
   unfolding produce
   produce-elsewhere-preserves s name pid epoch position sequence payload =
-      unless-does (first_refusal (produce_tests s (leader_at w x).partition n name pid epoch position sequence)) ProduceRefused keepPartition _
-      (λ (a : PartitionAction). Preserves w (with_partition w x (partitionAfter a (leader_at w x).partition) nothing)) same-partition
+      unless-does (first_refusal (produce_tests s (leader_at w x).partition n name pid epoch position sequence)) ProduceRefused keep_partition _
+      (λ (a : PartitionAction). Preserves w (with_partition w x (partition_after a (leader_at w x).partition) nothing)) same-partition
       (λ z. not-both words-not-admitted (produce-passed s (leader_at w x).partition n name pid epoch position sequence payload z).admitted)
 
   pub marker-elsewhere-preserves : (place : ℕ) (pid epoch : ℤ) (verdict : ℕ) (coordinator : ℤ) (k : ℕ) (o : Order)
-      → Preserves w (with_partition w x (partitionAfter (marker (leader_at w x).partition n place pid epoch verdict coordinator).action (leader_at w x).partition) (once_done (reply (marker (leader_at w x).partition n place pid epoch verdict coordinator).answer) k o))
+      → Preserves w (with_partition w x (partition_after (marker (leader_at w x).partition n place pid epoch verdict coordinator).action (leader_at w x).partition) (once_done (reply (marker (leader_at w x).partition n place pid epoch verdict coordinator).answer) k o))
   marker-elsewhere-preserves place pid epoch verdict coordinator k o =
       let refused : first_refusal (marker_tests (leader_at w x).partition n place pid epoch verdict coordinator) ≡ 0 → ⊥ =
       λ z. not-both words-not-admitted (marker-passed (leader_at w x).partition n place pid epoch verdict coordinator z).admitted in

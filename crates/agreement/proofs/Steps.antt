@@ -17,7 +17,7 @@ use Rattle.answers.specs.declared.ProduceAnswer.TheVariants.{Refused}
 use Rattle.answers.proofs.Laws.{unless-does}
 use Rattle.coordinator.specs.declared.Coordinator.{Coordinator}
 use Rattle.coordinator.specs.Calls.{ack_call, call_typed, action_of}
-use Rattle.partition.specs.Partition.{Action as PartitionAction, keep as keepPartition}
+use Rattle.partition.specs.Partition.{Action as PartitionAction, keep as keep_partition}
 use Rattle.server.specs.Produce.{produce_tests, produce}
 use Rattle.server.proofs.ProduceCases.{produce-passed}
 use Rattle.runs.specs.History.{entry_written}
@@ -47,7 +47,7 @@ module _ (w : World) (i : Invariant w) where
           (entry_written (record { name = padded name_max name; pid = pid; epoch = epoch; position = other; sequence = sequence; payload = payload; offset = (leader_at w other).partition.end })) nothing w)
       outside =
           unfold produce in
-          unless-does (first_refusal (produce_tests s (leader_at w other).partition (length (leader_at w other).words) name pid epoch position sequence)) Refused keepPartition _
+          unless-does (first_refusal (produce_tests s (leader_at w other).partition (length (leader_at w other).words) name pid epoch position sequence)) Refused keep_partition _
           (λ (a : PartitionAction). Preserves w (leader_does other a (entry_written
           (record { name = padded name_max name; pid = pid; epoch = epoch; position = other; sequence = sequence; payload = payload; offset = (leader_at w other).partition.end })) nothing w))
           (same-leader-preserves w i other) (λ z. not-both e (produce-passed s (leader_at w other).partition (length (leader_at w other).words) name pid epoch position sequence payload z).listed)

@@ -16,7 +16,7 @@ use Rattle.coordinator.specs.Flush.{flush_tests, flush}
 use Rattle.coordinator.specs.Open.{opening}
 use Rattle.coordinator.specs.declared.OpenedLog.{OpenedLog}
 use Rattle.coordinator.specs.declared.Coordinator.{Coordinator}
-use Rattle.partition.specs.Partition.{open_partition, Action as PartitionAction, after as partitionAfter, words_after, Performed as PartitionPerformed}
+use Rattle.partition.specs.Partition.{open_partition, Action as PartitionAction, after as partition_after, words_after, Performed as PartitionPerformed}
 use Rattle.partition.specs.Read.{read_answer, read_out}
 use Rattle.partition.specs.declared.Partition.{Partition}
 use Rattle.calls.specs.Meets.{server, OfFlush, OfOpening, OfOpenWords, OfRead}
@@ -29,7 +29,7 @@ coordinator-meets numbers d s log answer state left (a, b, c) p words out =
 
 pub partition-meets : {A : Type 0} (numbers : A → Reply) (d : Decision A PartitionAction) (p : Partition) (words : List ℕ) (answer : A) (state : Partition) (left : List ℕ)
     → PartitionPerformed d p words answer state left → (s : Coordinator) (log out : List ℕ)
-    → (numbers answer ≡ numbers d.answer) × (server s log state left out ≡ server s log (partitionAfter d.action p) (words_after d.action p words) out)
+    → (numbers answer ≡ numbers d.answer) × (server s log state left out ≡ server s log (partition_after d.action p) (words_after d.action p words) out)
 partition-meets numbers d p words answer state left (a, b, c) s log out =
     (ap numbers a, λ i. record { coordinator = s; log = log; partition = b i; words = c i; out = out })
 

@@ -26,7 +26,7 @@ use Rattle.row.specs.Row.{free, is_prepare, record_of}
 use Rattle.row.specs.Steps.{completed}
 use Rattle.row.specs.declared.Row.{Row}
 use Rattle.table.specs.Table.{row_at, place_of}
-use Rattle.coordinator.specs.Coordinator.{log_end, row_frame, Action, keep, advance, append, acknowledge as acknowledgeAt, flush_to, appended, acknowledged, after, log_after}
+use Rattle.coordinator.specs.Coordinator.{log_end, row_frame, Action, keep, advance, append, acknowledge as acknowledge_at, flush_to, appended, acknowledged, after, log_after}
 use Rattle.coordinator.specs.Ack.{last_outstanding, ack}
 use Rattle.coordinator.specs.Order.{order}
 use Rattle.coordinator.specs.Open.{opening}
@@ -36,7 +36,7 @@ use Rattle.coordinator.proofs.AckCases.{ack-completed, ack-noted}
 use Rattle.writable_logs.specs.Writer.{opening_reply}
 use Rattle.writable_logs.proofs.Decisions.{Decided, by_call}
 use Rattle.writable_logs.proofs.Lawful.{Lawful, decided-lawful}
-use Rattle.partition.specs.Partition.{Action as PartitionAction, keep as keepPartition, note, write}
+use Rattle.partition.specs.Partition.{Action as PartitionAction, keep as keep_partition, note, write}
 use Rattle.partition.specs.Marker.{marker}
 use Rattle.server.specs.Produce.{produce}
 use Rattle.runs.specs.History.{Order, Produced, Event, record_appended, log_flushed, log_cut, log_opened, order_given, marker_written, order_carried, entry_written, History, Logged, records_of, is_of, latest_of}
@@ -175,7 +175,7 @@ module _ (w : World) (i : Invariant w) (a : Acknowledged w.phase w.history) wher
     acted keep l k x y = now
     acted (advance clock) l k x y = record { rows = now.rows; below = now.below }
     acted (append place row) l k x y = appends h refl now.below place row (append-inside w i s u place row l) l.none-acknowledged (λ p e prepares d. now.rows p e prepares) _ x y
-    acted (acknowledgeAt place position) l k x y = absurd k
+    acted (acknowledge_at place position) l k x y = absurd k
     acted (flush_to n) l k x y =
         let z : Acknowledged (up s) (log_flushed n ∷ h) = acknowledged-same (up s) h (log_flushed n ∷ h) (flush-records h n) (unfold acknowledged_orders in refl) (omega arith) now in
         record { rows = z.rows; below = z.below }
@@ -218,7 +218,7 @@ module _ (w : World) (i : Invariant w) (a : Acknowledged w.phase w.history) wher
           now.rows p e prepares x ∙ sym (not-for p not-this x)) _ j.log-side j.of-history
 
       -- another one is noted
-      notes : Keeps (coordinator_does (acknowledgeAt o.place o.position) s (with_event w (order_carried o)))
+      notes : Keeps (coordinator_does (acknowledge_at o.place o.position) s (with_event w (order_carried o)))
       notes j = record { rows = λ p e prepares x. noted p (rw (← (carried-records h o).records) e) prepares x (ℕ_discrete o.for p.number); below = below-carried }
         where
           state : Coordinator
@@ -249,7 +249,7 @@ module _ (w : World) (i : Invariant w) (a : Acknowledged w.phase w.history) wher
   told e r k = acknowledged-same w.phase h (e ∷ h) r k (omega arith) a
 
   led : (x : ℕ) (d : PartitionAction) (e : Event) (k : Carrying) → records_of (e ∷ h) ≡ records_of h → acknowledged_orders (e ∷ h) ≡ acknowledged_orders h → Keeps (leader_does x d e k w)
-  led x keepPartition e k r q j = a
+  led x keep_partition e k r q j = a
   led x (note coordinator place p) e k r q j = a
   led x (write coordinator place p words) e k r q j = told e r q
 

@@ -11,13 +11,13 @@ use Rattle.numbers.specs.Bytes.{overwrite, same}
 use Rattle.numbers.specs.Integers.{big_endian, integer_bytes, integer_of, number_from}
 use Rattle.numbers.specs.Padded.{until_zero}
 use Rattle.bits.specs.Bits.{members}
-use Rattle.catalogue.specs.Catalogue.{name_byte, name_run, is_line, line_at, is_new, lines as catalogueLines, parse}
+use Rattle.catalogue.specs.Catalogue.{name_byte, name_run, is_line, line_at, is_new, lines as catalogue_lines, parse}
 use Rattle.record.specs.Record.{name_bytes, name_fits, valid_name, joined_fits, start_fits, fields_fit, well_formed}
 use Rattle.record.specs.Frame.{key, partition_bytes, topic_entry, topic_bytes, topics_below, count_below, topics, value, frame}
 use Rattle.record.specs.Topics.{with_partition, partitions_below, partitions_of, partitions_at, name_stands, topic_at, past, walk}
 use Rattle.record.specs.Reading.{candidate, judged, read_frame_within}
 use Rattle.succession.specs.Moves.{may_follow_status}
-use Rattle.succession.specs.Succession.{first as isFirst, initializes, begins, keeps, follows}
+use Rattle.succession.specs.Succession.{first as is_first, initializes, begins, keeps, follows}
 use Rattle.search.specs.Search.{first_where, count_where, sum_of}
 use Rattle.answers.specs.Refusals.{first_refusal}
 use Rattle.table.specs.Next.{succeeds, may_come}
@@ -84,16 +84,16 @@ demanded-room-each r text log n epoch first last words out xs one two three four
 
 -- there are such calls, and these leave not a byte more
 pub demanded-room-full : RoomToEnd → log_end filled_up + 1090 ≤ filled_up.room
-unfolding after_each ones overwrite same big_endian integer_bytes until_zero members name_byte name_run is_line line_at is_new catalogueLines parse name_bytes name_fits key partition_bytes topic_entry topic_bytes topics_below count_below topics value frame first_where count_where sum_of first_refusal scan_within place_of lowest_free id_count reserved apply admits not_held log_full appended read_tests take_over_tests open_tests opening init_row init_tests init_row_tests init_accepted init all_joined add_row add_tests add_row_tests add_action add flush_tests flush
+unfolding after_each ones overwrite same big_endian integer_bytes until_zero members name_byte name_run is_line line_at is_new catalogue_lines parse name_bytes name_fits key partition_bytes topic_entry topic_bytes topics_below count_below topics value frame first_where count_where sum_of first_refusal scan_within place_of lowest_free id_count reserved apply admits not_held log_full appended read_tests take_over_tests open_tests opening init_row init_tests init_row_tests init_accepted init all_joined add_row add_tests add_row_tests add_action add flush_tests flush
 demanded-room-full r = demanded-room r widest_text (replicate 1748 0) 0 (pos 1) (pos 1000) (pos 1999) [] [] begins_longest [] (drop 1 filled_up.table.rows) (row_at filled_up.table 0) refl refl
 
 -- document 02, 1: "Older logs open if their buffer meets the larger reserve": with 1,090 bytes behind its end this one is opened, and with 1,089 it is refused
 pub demanded-older : OpensWithin older_key_max → (opening catalogue_text (older_log 1090) 176 (pos 1) (pos 1000) (pos 1999)).answer ≡ Opened
-unfolding ones overwrite same big_endian integer_bytes until_zero members name_byte name_run is_line line_at is_new catalogueLines parse name_bytes name_fits valid_name joined_fits start_fits fields_fit well_formed key partition_bytes topic_entry topic_bytes topics_below count_below topics value frame with_partition partitions_below partitions_of partitions_at name_stands topic_at past walk integer_of number_from candidate judged read_frame_within may_follow_status isFirst initializes begins follows keeps first_where count_where succeeds may_come scan_within place_of lowest_free apply frames_in_order
+unfolding ones overwrite same big_endian integer_bytes until_zero members name_byte name_run is_line line_at is_new catalogue_lines parse name_bytes name_fits valid_name joined_fits start_fits fields_fit well_formed key partition_bytes topic_entry topic_bytes topics_below count_below topics value frame with_partition partitions_below partitions_of partitions_at name_stands topic_at past walk integer_of number_from candidate judged read_frame_within may_follow_status is_first initializes begins follows keeps first_where count_where succeeds may_come scan_within place_of lowest_free apply frames_in_order
 demanded-older d =
     ap (λ (o : OpenedLog). o.answer) (d.else-opened catalogue_text (older_log 1090) 176 (pos 1) (pos 1000) (pos 1999) (record { catalogue = refl; within = omega arith; accepted = refl; numbers = refl }) (omega arith))
 
 pub demanded-no-room : OpensWithin older_key_max → (opening catalogue_text (older_log 1089) 176 (pos 1) (pos 1000) (pos 1999)).answer ≡ Refused 17
-unfolding ones overwrite same big_endian integer_bytes until_zero members name_byte name_run is_line line_at is_new catalogueLines parse name_bytes name_fits valid_name joined_fits start_fits fields_fit well_formed key partition_bytes topic_entry topic_bytes topics_below count_below topics value frame with_partition partitions_below partitions_of partitions_at name_stands topic_at past walk integer_of number_from candidate judged read_frame_within may_follow_status isFirst initializes begins follows keeps first_where count_where succeeds may_come scan_within place_of lowest_free apply frames_in_order
+unfolding ones overwrite same big_endian integer_bytes until_zero members name_byte name_run is_line line_at is_new catalogue_lines parse name_bytes name_fits valid_name joined_fits start_fits fields_fit well_formed key partition_bytes topic_entry topic_bytes topics_below count_below topics value frame with_partition partitions_below partitions_of partitions_at name_stands topic_at past walk integer_of number_from candidate judged read_frame_within may_follow_status is_first initializes begins follows keeps first_where count_where succeeds may_come scan_within place_of lowest_free apply frames_in_order
 demanded-no-room d =
     (d.no-room-iff catalogue_text (older_log 1089) 176 (pos 1) (pos 1000) (pos 1999) (record { catalogue = refl; within = omega arith; accepted = refl; numbers = refl })).1 (omega arith)

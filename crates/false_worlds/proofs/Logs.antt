@@ -5,7 +5,7 @@ use Rattle.numbers.specs.Bytes.{overwrite, same}
 use Rattle.numbers.specs.Integers.{big_endian, integer_bytes}
 use Rattle.numbers.specs.Padded.{until_zero}
 use Rattle.bits.specs.Bits.{members}
-use Rattle.catalogue.specs.Catalogue.{name_byte, name_run, is_line, line_at, is_new, lines as catalogueLines, parse}
+use Rattle.catalogue.specs.Catalogue.{name_byte, name_run, is_line, line_at, is_new, lines as catalogue_lines, parse}
 use Rattle.record.specs.Frame.{key, partition_bytes, topic_entry, topic_bytes, topics_below, count_below, topics, value, frame}
 use lib.ListN.{take}
 use Rattle.log_reader.specs.Records.{frames_of}
@@ -16,7 +16,7 @@ use Rattle.false_worlds.specs.Logs.{Disagrees, other_bytes, other_end, shorter_e
 use Rattle.false_worlds.proofs.Differ.{differ, differ-lists, above}
 
 pub log-disagrees : (x : Disagrees) → LogAgrees (disagreeing x) → ⊥
-unfolding frames_of ending_by records_of flushed_of ones overwrite same big_endian integer_bytes until_zero members name_byte name_run is_line line_at is_new catalogueLines parse key partition_bytes topic_entry topic_bytes topics_below count_below topics value frame
+unfolding frames_of ending_by records_of flushed_of ones overwrite same big_endian integer_bytes until_zero members name_byte name_run is_line line_at is_new catalogue_lines parse key partition_bytes topic_entry topic_bytes topics_below count_below topics value frame
 log-disagrees other_bytes =
     λ k. let w = disagreeing other_bytes in differ-lists (take 53 w.log) (frames_of (catalogue_of w) (contents (log_records w.history))) refl refl k.bytes
 log-disagrees other_end = λ k. let (here, rest) = k.ends in differ 54 53 refl refl here

@@ -10,7 +10,7 @@ use Rattle.numbers.specs.Bytes.{overwrite, same}
 use Rattle.numbers.specs.Integers.{big_endian, integer_bytes}
 use Rattle.numbers.specs.Padded.{until_zero}
 use Rattle.bits.specs.Bits.{members}
-use Rattle.catalogue.specs.Catalogue.{name_byte, name_run, is_line, line_at, is_new, lines as catalogueLines, parse}
+use Rattle.catalogue.specs.Catalogue.{name_byte, name_run, is_line, line_at, is_new, lines as catalogue_lines, parse}
 use Rattle.record.specs.Frame.{key, partition_bytes, topic_entry, topic_bytes, topics_below, count_below, topics, value, frame}
 use Rattle.record.specs.Limits.{name_max}
 use Rattle.numbers.specs.Integers.{integer_of, number_from}
@@ -49,14 +49,14 @@ not-by-appearance place_twice = λ k. fails (k.others 2 (leb-true 2 2 refl))
 not-by-appearance place_left_out = λ k. let (here, more) = k.held in let (second, rest) = more in differ-lists (replicate name_max 0) name3 refl refl second
 
 pub not-its-numbers : (x : Misnumbered) → NumbersOf scans both_records (misnumbered x) → ⊥
-unfolding frames_of greatest_update pids_above ones overwrite same big_endian integer_bytes until_zero members name_byte name_run is_line line_at is_new catalogueLines parse key partition_bytes topic_entry topic_bytes topics_below count_below topics value frame
+unfolding frames_of greatest_update pids_above ones overwrite same big_endian integer_bytes until_zero members name_byte name_run is_line line_at is_new catalogue_lines parse key partition_bytes topic_entry topic_bytes topics_below count_below topics value frame
 not-its-numbers pid_given_again = λ k. differ 1001 1002 refl refl k.next
 not-its-numbers old_update = λ k. differ 110 115 refl refl k.updated
 not-its-numbers torn_end = λ k. differ 110 106 refl refl k.end
 
 -- the BEGIN is the latest, and ends at 120
 pub not-its-latest : (x : NotLatest) → HoldsLatest scans begun_records (not_latest x) → ⊥
-unfolding frames_of first_where place_of ones overwrite same big_endian integer_bytes until_zero members name_byte name_run is_line line_at is_new catalogueLines parse key partition_bytes topic_entry topic_bytes topics_below count_below topics value frame
+unfolding frames_of first_where place_of ones overwrite same big_endian integer_bytes until_zero members name_byte name_run is_line line_at is_new catalogue_lines parse key partition_bytes topic_entry topic_bytes topics_below count_below topics value frame
 not-its-latest first_record = λ k. fails (ap (λ (row : Row). is_begin row.status) (k [] (empty7 ∷ []) begin7 refl tt))
 not-its-latest other_log_end = λ k. differ 119 120 refl refl (ap (λ (row : Row). row.end) (k [] (empty7 ∷ []) begin7 refl tt))
 not-its-latest taken_as_acknowledged = λ k. differ 1 0 refl refl (ap (λ (row : Row). row.acknowledged) (k [] (empty7 ∷ []) begin7 refl tt))
@@ -64,7 +64,7 @@ not-its-latest not_held = λ k. fails (ap (λ (row : Row). is_begin row.status) 
 
 -- each name has its latest, not the newest of the log alone
 pub older-not-latest : HoldsLatest scans (empty3 ∷ begun_records) older_forgotten → ⊥
-unfolding frames_of first_where place_of ones overwrite same big_endian integer_bytes until_zero members name_byte name_run is_line line_at is_new catalogueLines parse key partition_bytes topic_entry topic_bytes topics_below count_below topics value frame
+unfolding frames_of first_where place_of ones overwrite same big_endian integer_bytes until_zero members name_byte name_run is_line line_at is_new catalogue_lines parse key partition_bytes topic_entry topic_bytes topics_below count_below topics value frame
 older-not-latest = λ k. fails (ap (λ (row : Row). is_begin row.status) (k (empty3 ∷ []) (empty7 ∷ []) begin7 refl ((λ e. differ-lists name3 name7 refl refl e), tt)))
 
 pub holds-another : HoldsNoOther begun_records invented_name → ⊥
@@ -82,7 +82,7 @@ pub not-said-numbers : (x : Misnumbered) → TableSays scans both_records (misnu
 not-said-numbers x = λ k. not-its-numbers x k.numbers
 
 pub not-read-back : (x : Unreadable) → ReadsBack scans (unreadable x) → ⊥
-unfolding read_frame_within judged candidate well_formed valid_name fields_fit joined_fits start_fits integer_of number_from walk past topic_at name_stands partitions_at partitions_of partitions_below with_partition name_bytes name_fits ones overwrite same big_endian integer_bytes until_zero members name_byte name_run is_line line_at is_new catalogueLines parse key partition_bytes topic_entry topic_bytes topics_below count_below topics value frame
+unfolding read_frame_within judged candidate well_formed valid_name fields_fit joined_fits start_fits integer_of number_from walk past topic_at name_stands partitions_at partitions_of partitions_below with_partition name_bytes name_fits ones overwrite same big_endian integer_bytes until_zero members name_byte name_run is_line line_at is_new catalogue_lines parse key partition_bytes topic_entry topic_bytes topics_below count_below topics value frame
 not-read-back timeout_zero = λ k. fails (ap (λ (f : FrameAt). is_whole f.reading) (k 0 []))
 not-read-back negative_pid = λ k. fails (ap (λ (f : FrameAt). is_whole f.reading) (k 0 []))
 not-read-back start_in_empty = λ k. fails (ap (λ (f : FrameAt). is_whole f.reading) (k 0 []))
@@ -92,7 +92,7 @@ not-read-back partition_dropped = λ k. differ 1 5 refl refl (ap (λ (f : FrameA
 
 -- nor is it a record that the server could have written
 pub not_written : (x : Unreadable) → CouldWrite scan_text (unreadable x ∷ []) → ⊥
-unfolding read_frame_within judged candidate well_formed valid_name fields_fit joined_fits start_fits integer_of number_from walk past topic_at name_stands partitions_at partitions_of partitions_below with_partition name_bytes name_fits ones overwrite same big_endian integer_bytes until_zero members name_byte name_run is_line line_at is_new catalogueLines parse key partition_bytes topic_entry topic_bytes topics_below count_below topics value frame
+unfolding read_frame_within judged candidate well_formed valid_name fields_fit joined_fits start_fits integer_of number_from walk past topic_at name_stands partitions_at partitions_of partitions_below with_partition name_bytes name_fits ones overwrite same big_endian integer_bytes until_zero members name_byte name_run is_line line_at is_new catalogue_lines parse key partition_bytes topic_entry topic_bytes topics_below count_below topics value frame
 not_written timeout_zero = λ k. let (here, rest) = k.well-formed in fails here
 not_written negative_pid = λ k. let (here, rest) = k.well-formed in fails here
 not_written start_in_empty = λ k. let (here, rest) = k.well-formed in fails here
@@ -101,17 +101,17 @@ not_written no_set_in_begin = λ k. let (here, rest) = k.well-formed in fails he
 not_written partition_dropped = λ k. let (here, rest) = k.well-formed in fails here
 
 pub not-openable : (x : NotOpenable) → Openable scan_text (bytes_of x) (records_in x) (rest_of x) → ⊥
-unfolding frames_of integer_of number_from ones overwrite same big_endian integer_bytes until_zero members name_byte name_run is_line line_at is_new catalogueLines parse key partition_bytes topic_entry topic_bytes topics_below count_below topics value frame
+unfolding frames_of integer_of number_from ones overwrite same big_endian integer_bytes until_zero members name_byte name_run is_line line_at is_new catalogue_lines parse key partition_bytes topic_entry topic_bytes topics_below count_below topics value frame
 not-openable other_bytes = λ k. differ-lists (replicate 53 0) (frames_of scans (empty7 ∷ []) ++ []) refl refl k.bytes-are
 not-openable bad_rest = λ k. fails k.torn
 not-openable whole_rest = λ k. fails k.torn
 
 pub not-starting : StartsWith scans (replicate 53 0) (empty7 ∷ []) → ⊥
-unfolding frames_of ones overwrite same big_endian integer_bytes until_zero members name_byte name_run is_line line_at is_new catalogueLines parse key partition_bytes topic_entry topic_bytes topics_below count_below topics value frame
+unfolding frames_of ones overwrite same big_endian integer_bytes until_zero members name_byte name_run is_line line_at is_new catalogue_lines parse key partition_bytes topic_entry topic_bytes topics_below count_below topics value frame
 not-starting = λ k. differ-lists (replicate 53 0) (frames_of scans (empty7 ∷ [])) refl refl k
 
 pub not-in-order : (x : OutOfOrder) → InOrder (out_of_order x).text (replicate 8 0) (out_of_order x).length (out_of_order x).epoch (out_of_order x).first (out_of_order x).last → ⊥
-unfolding ones overwrite same big_endian integer_bytes until_zero members name_byte name_run is_line line_at is_new catalogueLines parse key partition_bytes topic_entry topic_bytes topics_below count_below topics value frame
+unfolding ones overwrite same big_endian integer_bytes until_zero members name_byte name_run is_line line_at is_new catalogue_lines parse key partition_bytes topic_entry topic_bytes topics_below count_below topics value frame
 not-in-order no_catalogue = λ k. differ 5 0 refl refl k.catalogue
 not-in-order length_past = λ k. above 9 8 refl k.log-length
 not-in-order negative_epoch = λ k. passes k.numbers
@@ -119,7 +119,7 @@ not-in-order negative_first = λ k. passes k.numbers
 not-in-order last_below_first = λ k. passes k.numbers
 
 pub not-opening-again : (x : NotReopened) → OpensAgain scan_text (not_reopened x) → ⊥
-unfolding frames_of sum_of reserved admits scan_within read_tests take_over_tests open_tests opening first_refusal first_where place_of lowest_free apply succeeds may_come may_follow_status first initializes begins widens prepares_commit prepares_abort completes keeps follows read_frame_within judged candidate well_formed valid_name fields_fit joined_fits start_fits integer_of number_from walk past topic_at name_stands partitions_at partitions_of partitions_below with_partition name_bytes name_fits ones overwrite same big_endian integer_bytes until_zero members name_byte name_run is_line line_at is_new catalogueLines parse key partition_bytes topic_entry topic_bytes topics_below count_below topics value frame
+unfolding frames_of sum_of reserved admits scan_within read_tests take_over_tests open_tests opening first_refusal first_where place_of lowest_free apply succeeds may_come may_follow_status first initializes begins widens prepares_commit prepares_abort completes keeps follows read_frame_within judged candidate well_formed valid_name fields_fit joined_fits start_fits integer_of number_from walk past topic_at name_stands partitions_at partitions_of partitions_below with_partition name_bytes name_fits ones overwrite same big_endian integer_bytes until_zero members name_byte name_run is_line line_at is_new catalogue_lines parse key partition_bytes topic_entry topic_bytes topics_below count_below topics value frame
 not-opening-again written_bad = λ k.
     let e = k.opens 8 (pos 0) (pos 0) (pos 0) (leb-true 0 8 refl) (leb-true 8 8 refl) refl in
     differ 6 0 refl refl (ap (λ (o : OpenedLog). (open_reply o.answer).number) e)

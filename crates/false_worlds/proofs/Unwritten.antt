@@ -11,7 +11,7 @@ use Rattle.numbers.specs.Bytes.{overwrite, same}
 use Rattle.numbers.specs.Integers.{big_endian, integer_bytes, integer_of, number_from}
 use Rattle.numbers.specs.Padded.{until_zero}
 use Rattle.bits.specs.Bits.{members}
-use Rattle.catalogue.specs.Catalogue.{name_byte, name_run, is_line, line_at, is_new, lines as catalogueLines, parse}
+use Rattle.catalogue.specs.Catalogue.{name_byte, name_run, is_line, line_at, is_new, lines as catalogue_lines, parse}
 use Rattle.record.specs.Frame.{key, partition_bytes, topic_entry, topic_bytes, topics_below, count_below, topics, value, frame}
 use Rattle.record.specs.Record.{name_bytes, name_fits, valid_name, joined_fits, start_fits, fields_fit, well_formed}
 use Rattle.record.specs.Topics.{with_partition, partitions_below, partitions_of, partitions_at, name_stands, topic_at, past, walk}
@@ -42,7 +42,7 @@ use Rattle.false_worlds.proofs.Differ.{differ, fails, above}
 
 -- each record of these lists is well formed by itself
 pub formed-by-itself : (x : OutOfTurn) → Each (λ (r : Record). well_formed scans r ≡ true) (out_of_turn x)
-unfolding well_formed valid_name fields_fit joined_fits start_fits name_bytes name_fits ones overwrite same until_zero members name_byte name_run is_line line_at is_new catalogueLines parse
+unfolding well_formed valid_name fields_fit joined_fits start_fits name_bytes name_fits ones overwrite same until_zero members name_byte name_run is_line line_at is_new catalogue_lines parse
 formed-by-itself begin_first = (refl, tt)
 formed-by-itself not_prepared = (refl, (refl, (refl, tt)))
 formed-by-itself other_verdict = (refl, (refl, (refl, (refl, tt))))
@@ -53,7 +53,7 @@ formed-by-itself update_falls = (refl, (refl, tt))
 
 -- what the server could have written comes in succession, and these do not
 pub not-in-turn : (x : OutOfTurn) → CouldWrite scan_text (out_of_turn x) → ⊥
-unfolding all_come table_from frames_of apply lowest_free place_of first_where succeeds may_come may_follow_status first initializes begins widens prepares_commit prepares_abort completes keeps follows well_formed valid_name fields_fit joined_fits start_fits name_bytes name_fits ones overwrite same big_endian integer_bytes until_zero members name_byte name_run is_line line_at is_new catalogueLines parse key partition_bytes topic_entry topic_bytes topics_below count_below topics value frame
+unfolding all_come table_from frames_of apply lowest_free place_of first_where succeeds may_come may_follow_status first initializes begins widens prepares_commit prepares_abort completes keeps follows well_formed valid_name fields_fit joined_fits start_fits name_bytes name_fits ones overwrite same big_endian integer_bytes until_zero members name_byte name_run is_line line_at is_new catalogue_lines parse key partition_bytes topic_entry topic_bytes topics_below count_below topics value frame
 not-in-turn begin_first = λ k. fails (could-come scan_text (out_of_turn begin_first) k)
 not-in-turn not_prepared = λ k. fails (could-come scan_text (out_of_turn not_prepared) k)
 not-in-turn other_verdict = λ k. fails (could-come scan_text (out_of_turn other_verdict) k)
@@ -68,7 +68,7 @@ unwritten-not-openable x = λ k. not-in-turn x k.written
 
 -- an empty log is opened in the buffer of the list that is made from them
 opening-accepted : (x : OutOfTurn) → (opening_reply scan_text (replicate (room_for (out_of_turn x)) 0) 0 (pos 0) (pos 0) (pos 0)).number ≡ 0
-unfolding scan_within read_tests take_over_tests open_tests opening first_refusal sum_of reserved ones until_zero members name_byte name_run is_line line_at is_new catalogueLines parse same
+unfolding scan_within read_tests take_over_tests open_tests opening first_refusal sum_of reserved ones until_zero members name_byte name_run is_line line_at is_new catalogue_lines parse same
 opening-accepted begin_first = refl
 opening-accepted not_prepared = refl
 opening-accepted other_verdict = refl
@@ -107,7 +107,7 @@ one-offset x y =
 
 -- and an opening answers it
 pub bad-at-53 : FirstBad scan_text bad_second 53
-unfolding frames_of scan_within read_tests take_over_tests open_tests opening first_refusal apply lowest_free place_of first_where succeeds may_come may_follow_status first initializes begins widens prepares_commit prepares_abort completes keeps follows read_frame_within judged candidate well_formed valid_name fields_fit joined_fits start_fits integer_of number_from walk past topic_at name_stands partitions_at partitions_of partitions_below with_partition name_bytes name_fits ones overwrite same big_endian integer_bytes until_zero members name_byte name_run is_line line_at is_new catalogueLines parse key partition_bytes topic_entry topic_bytes topics_below count_below topics value frame
+unfolding frames_of scan_within read_tests take_over_tests open_tests opening first_refusal apply lowest_free place_of first_where succeeds may_come may_follow_status first initializes begins widens prepares_commit prepares_abort completes keeps follows read_frame_within judged candidate well_formed valid_name fields_fit joined_fits start_fits integer_of number_from walk past topic_at name_stands partitions_at partitions_of partitions_below with_partition name_bytes name_fits ones overwrite same big_endian integer_bytes until_zero members name_byte name_run is_line line_at is_new catalogue_lines parse key partition_bytes topic_entry topic_bytes topics_below count_below topics value frame
 bad-at-53 = demand-2.bad-offset scan_text bad_second 159 53 (pos 1) (pos 1000) (pos 1999) refl
 
 pub not-first-bad : (x : OtherOffset) → FirstBad scan_text bad_second (offset_of x) → ⊥
@@ -120,6 +120,6 @@ not-first-bad logs_end = λ k. differ 159 53 refl refl (one-offset k bad-at-53)
 
 -- a BEGIN asks for 1,090 bytes behind the log's end, at 120; the buffer has 1,089
 pub not-reserved : InOrder scan_text (begin_log 1089) 120 (pos 1) (pos 1000) (pos 1999) → ⊥
-unfolding has_name names_of all_come table_from frames_of apply lowest_free place_of first_where find sum_of succeeds may_come may_follow_status first initializes begins widens prepares_commit prepares_abort completes keeps follows well_formed valid_name fields_fit joined_fits start_fits integer_of number_from name_bytes name_fits ones overwrite same big_endian integer_bytes until_zero members name_byte name_run is_line line_at is_new catalogueLines parse key partition_bytes topic_entry topic_bytes topics_below count_below topics value frame
+unfolding has_name names_of all_come table_from frames_of apply lowest_free place_of first_where find sum_of succeeds may_come may_follow_status first initializes begins widens prepares_commit prepares_abort completes keeps follows well_formed valid_name fields_fit joined_fits start_fits integer_of number_from name_bytes name_fits ones overwrite same big_endian integer_bytes until_zero members name_byte name_run is_line line_at is_new catalogue_lines parse key partition_bytes topic_entry topic_bytes topics_below count_below topics value frame
 not-reserved k =
     above 1210 1209 refl (k.reserve begins7 [] (record { bytes-are = refl; written = could-write scan_text refl begins7 refl; torn = refl }))

@@ -11,7 +11,7 @@ use lib.ListN.{length}
 use Rattle.numbers.specs.Ascii.{ascii}
 use Rattle.numbers.specs.Bytes.{same}
 use Rattle.text.specs.Decimal.{decimal_within, decimal}
-use Rattle.text.specs.Lines.{field as fieldWritten, fields, line, Wrote}
+use Rattle.text.specs.Lines.{field as field_written, fields, line, Wrote}
 use Rattle.text.proofs.Decimal.{decimal-most}
 use Rattle.fields.specs.Fields.{count, field}
 use Rattle.fields.specs.Numbers.{unsigned}
@@ -69,7 +69,7 @@ unfolding fields decimal decimal_within
 not-forced-fields = refl
 
 -- the number of a refusal has at most three digits, behind its tab
-pub refusal-short : (n : ℕ) → n < 256 → length (fieldWritten (decimal n)) ≤ answer_fields_max
+pub refusal-short : (n : ℕ) → n < 256 → length (field_written (decimal n)) ≤ answer_fields_max
 refusal-short n h = omega (arith, decimal-most 2 n (omega arith))
 
 -- ---- the line

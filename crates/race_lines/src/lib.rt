@@ -2,7 +2,7 @@
 #![tactic(auto)]
 
 ghost use Rattle.std.specs.Prelude.{◌≡◌, ◌+◌, ◌≤◌, length};
-ghost use Rattle.text.specs.Lines.{Wrote, fields as fieldsWritten};
+ghost use Rattle.text.specs.Lines.{Wrote, fields as fields_written};
 ghost use Rattle.fields.specs.Fields.{SplitInto};
 ghost use Rattle.race_lines.specs.Limits.{answer_fields_max, answer_max};
 ghost use Rattle.race_lines.specs.Lines.{board_of, request_of, answer_fields, answer_line, written, bytes_after};
@@ -62,7 +62,7 @@ pub fn parse(line: &[u8]) -> Request
 // Writes the fields of an answer.
 fn write_answer(answer: RaceAnswer, out: &mut [u8], at: usize) -> usize
     requires { at + answer_fields_max ≤ length out.old }
-    ensures { Wrote (fieldsWritten (answer_fields answer)) out.old at result out.new × (result ≤ at + answer_fields_max) }
+    ensures { Wrote (fields_written (answer_fields answer)) out.old at result out.new × (result ≤ at + answer_fields_max) }
 {
     match answer {
         RaceAnswer::Forced => text::write_bytes(out, at, b"\t0\t1"),

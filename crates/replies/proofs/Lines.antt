@@ -14,7 +14,7 @@ use Rattle.text.specs.Lines.{line, Wrote}
 use Rattle.command.specs.declared.Command.{Command}
 use Rattle.command.specs.Command.{row_of_command}
 use Rattle.command.specs.Words.{word_at}
-use Rattle.listing.specs.Listing.{number_field, results_of as resultsIn, result_fields, reply_line, render_answer, render_bytes, Within}
+use Rattle.listing.specs.Listing.{number_field, results_of as results_in, result_fields, reply_line, render_answer, render_bytes, Within}
 use Rattle.listing.specs.Limits.{line_max}
 use Rattle.listing.specs.declared.Reply.{Reply as Shown}
 use Rattle.listing.specs.declared.Reply.TheVariants.{Unknown, Answered}
@@ -70,7 +70,7 @@ module _ (dash : Bool) (r : Response) (payloads : List ℕ) where
 
   fields-rendered : (known : Bool) (end flushed : ℕ)
       → let shown = cond known (Answered r.number (answer_rendered dash r (length payloads))) Unknown in
-      number_field shown ∷ decimal end ∷ decimal flushed ∷ result_fields (resultsIn shown) (numbers_listed r.results payloads) ≡ fields_shown known dash (reply_of r payloads) end flushed
+      number_field shown ∷ decimal end ∷ decimal flushed ∷ result_fields (results_in shown) (numbers_listed r.results payloads) ≡ fields_shown known dash (reply_of r payloads) end flushed
   fields-rendered true end flushed = ap (λ (l : List (List ℕ)). decimal r.number ∷ decimal end ∷ decimal flushed ∷ l) answer-rendered
   fields-rendered false end flushed = refl
 

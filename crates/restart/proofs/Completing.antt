@@ -29,14 +29,14 @@ use Rattle.row.specs.Steps.{completed}
 use Rattle.row.specs.declared.Row.{Row}
 use Rattle.row.proofs.Laws.{complete-unprepared}
 use Rattle.table.specs.Table.{row_at, place_of, apply}
-use Rattle.coordinator.specs.Coordinator.{log_end, row_frame, unflushed, Action, keep, advance, append, flush_to, acknowledge as acknowledgeAt, appended, acknowledged, after}
+use Rattle.coordinator.specs.Coordinator.{log_end, row_frame, unflushed, Action, keep, advance, append, flush_to, acknowledge as acknowledge_at, appended, acknowledged, after}
 use Rattle.coordinator.specs.Order.{due, ordered, order_place}
 use Rattle.coordinator.specs.Ack.{last_outstanding}
 use Rattle.coordinator.specs.Calls.{is_word, ack_call, action_of}
 use Rattle.coordinator.specs.declared.Coordinator.{Coordinator}
 use Rattle.coordinator.proofs.AckCases.{AckPassed, ack-passed, ack-completed, ack-noted}
 use Rattle.coordinator.proofs.OrderCases.{ordered-is, order-given, order-lowest}
-use Rattle.partition.specs.Partition.{Action as PartitionAction, keep as keepPartition, note, write}
+use Rattle.partition.specs.Partition.{Action as PartitionAction, keep as keep_partition, note, write}
 use Rattle.partition.specs.Marker.{marker}
 use Rattle.runs.specs.History.{Order, order_given, order_carried, marker_written, History, Logged, collect, carried_in, records_of, flushed_of, latest_of, next_of, flushed_prepares, is_completed}
 use Rattle.runs.specs.World.{Leader, up, Carrying, nothing, to_deliver, to_acknowledge, World, catalogue_of, leader_at, start, own, Item, call_order, deliver, acknowledge, with_event, coordinator_does, order_answered, deliverable, acknowledgeable, marker_called, ack_called, history_after, history_written, next, step, run}
@@ -144,12 +144,12 @@ unfolding collect
 action-carries-nothing keep s h = refl
 action-carries-nothing (advance clock) s h = refl
 action-carries-nothing (append place row) s h = refl
-action-carries-nothing (acknowledgeAt place position) s h = refl
+action-carries-nothing (acknowledge_at place position) s h = refl
 action-carries-nothing (flush_to n) s h = refl
 
 marker-carries-nothing : (a : PartitionAction) (o : Order) (h : History) → collect carried_in (history_written a (marker_written o) h) ≡ collect carried_in h
 unfolding collect
-marker-carries-nothing keepPartition o h = refl
+marker-carries-nothing keep_partition o h = refl
 marker-carries-nothing (note coordinator place q) o h = refl
 marker-carries-nothing (write coordinator place q words) o h = refl
 

@@ -26,7 +26,7 @@ use Rattle.row.specs.Steps.{completed}
 use Rattle.row.specs.declared.Row.{Row}
 use Rattle.row.proofs.Laws.{complete-code}
 use Rattle.table.specs.Table.{row_at, place_of}
-use Rattle.coordinator.specs.Coordinator.{log_end, row_frame, Action, keep, advance, append, acknowledge as acknowledgeAt, flush_to, appended, acknowledged, after, log_after}
+use Rattle.coordinator.specs.Coordinator.{log_end, row_frame, Action, keep, advance, append, acknowledge as acknowledge_at, flush_to, appended, acknowledged, after, log_after}
 use Rattle.coordinator.specs.Ack.{last_outstanding, ack}
 use Rattle.coordinator.specs.Flush.{flush}
 use Rattle.coordinator.specs.Order.{order}
@@ -37,7 +37,7 @@ use Rattle.coordinator.proofs.AckCases.{ack-completed, ack-noted}
 use Rattle.writable_logs.specs.Writer.{opening_reply}
 use Rattle.writable_logs.proofs.Decisions.{Decided, by_call}
 use Rattle.writable_logs.proofs.Lawful.{Lawful, decided-lawful}
-use Rattle.partition.specs.Partition.{Action as PartitionAction, keep as keepPartition, note, write}
+use Rattle.partition.specs.Partition.{Action as PartitionAction, keep as keep_partition, note, write}
 use Rattle.partition.specs.Marker.{marker}
 use Rattle.server.specs.Produce.{produce}
 use Rattle.runs.specs.History.{Order, Event, record_appended, log_flushed, log_opened, order_given, marker_written, order_carried, entry_written, History, carried_in, collect, Logged, records_of, latest_of, next_of, listed, is_completed, carried_for}
@@ -102,7 +102,7 @@ module _ (p : Logged) (prepares : is_prepare p.content.status ≡ true) (n : ℕ
             (ap (λ (r : Row). count (outstanding r))
             (row_appended c w.log _ s h place row (log-of w i s u) i.of-history (record_appended (record_of row) end ∷ h) x y new (appended-records h (record_of row) end).records (append-inside w i s u place row l) p e d d))
             (unfinished e f)
-    acted (acknowledgeAt place position) l k x y = absurd k
+    acted (acknowledge_at place position) l k x y = absurd k
     acted (flush_to m) l k x y = total-same p n (up s) (up (after (flush_to m) s)) h (log_flushed m ∷ h) (flush-records h m) (collect-same carried_in (log_flushed m) h refl) refl now
 
     acts : (a : Action) → Decided s (length w.log) a → FlushedFirst s a → Counts (coordinator_does a s w)
@@ -189,7 +189,7 @@ module _ (p : Logged) (prepares : is_prepare p.content.status ≡ true) (n : ℕ
               (counted d (unfinished e f))
 
       -- another one is noted
-      notes : last_outstanding row ≡ false → Counts (coordinator_does (acknowledgeAt o.place o.position) s (with_event w (order_carried o)))
+      notes : last_outstanding row ≡ false → Counts (coordinator_does (acknowledge_at o.place o.position) s (with_event w (order_carried o)))
       notes last j = go now (ℕ_discrete o.for p.number)
         where
           noted : Coordinator
@@ -221,12 +221,12 @@ module _ (p : Logged) (prepares : is_prepare p.content.status ≡ true) (n : ℕ
   same-world j = t
 
   written-records : (a : PartitionAction) (e : Event) → records_of (e ∷ h) ≡ records_of h → records_of (history_written a e h) ≡ records_of h
-  written-records keepPartition e r = refl
+  written-records keep_partition e r = refl
   written-records (note coordinator place q) e r = refl
   written-records (write coordinator place q words) e r = r
 
   written-carried : (a : PartitionAction) (e : Event) → carried_in e ≡ [] → collect carried_in (history_written a e h) ≡ collect carried_in h
-  written-carried keepPartition e r = refl
+  written-carried keep_partition e r = refl
   written-carried (note coordinator place q) e r = refl
   written-carried (write coordinator place q words) e r = collect-same carried_in e h r
 

@@ -5,7 +5,7 @@ use Rattle.numbers.specs.Bytes.{overwrite, same}
 use Rattle.numbers.specs.Integers.{big_endian, integer_bytes, integer_of, number_from}
 use Rattle.numbers.specs.Padded.{until_zero}
 use Rattle.bits.specs.Bits.{members}
-use Rattle.catalogue.specs.Catalogue.{name_byte, name_run, is_line, line_at, is_new, lines as catalogueLines, parse}
+use Rattle.catalogue.specs.Catalogue.{name_byte, name_run, is_line, line_at, is_new, lines as catalogue_lines, parse}
 use Rattle.record.specs.Record.{name_bytes, name_fits, valid_name, joined_fits, start_fits, fields_fit, well_formed}
 use Rattle.record.specs.Frame.{key, partition_bytes, topic_entry, topic_bytes, topics_below, count_below, topics, value, frame}
 use Rattle.record.specs.Topics.{with_partition, partitions_below, partitions_of, partitions_at, name_stands, topic_at, past, walk}
@@ -28,9 +28,9 @@ use Rattle.coordinator.specs.End.{end_fits, end_row_tests, end_tests, end_action
 use Rattle.coordinator.specs.Order.{ordered, order_place, order}
 use Rattle.coordinator.specs.Ack.{ack_row_tests, ack_tests, ack_action, ack}
 use Rattle.coordinator.specs.Left.{left}
-use Rattle.partition.specs.Partition.{open_partition, open_count, oldest, admits as partitionAdmits}
+use Rattle.partition.specs.Partition.{open_partition, open_count, oldest, admits as partition_admits}
 use Rattle.partition.specs.Marker.{marker_tests, closed, marker_action, marker}
-use Rattle.partition.specs.Read.{next_marker, committed, copy, read_tests as readOffsetTests, read_answer, read_out}
+use Rattle.partition.specs.Read.{next_marker, committed, copy, read_tests as read_offset_tests, read_answer, read_out}
 use Rattle.partition.specs.Append.{last_sequence, next_sequence, produced, partition_full}
 use Rattle.server.specs.Produce.{produce_row_tests, produce_tests, produce}
 use Rattle.log_reader.specs.Records.{frames_of}
@@ -43,7 +43,7 @@ use Rattle.run_examples.specs.ExactOrders.{Moment, begun, prepare_appended, prep
 
 -- by the state, and by the history
 pub displays-hold : (x : Moment) → let w = after (items_of x) in (displays w.phase ≡ expected_displays x) × (shown w.history ≡ expected_displays x)
-unfolding left acknowledged_orders has_name names_of open_leaders run collect collect_with_before ending_by records_of frames_of flushed_of words_of records_read find find_last filter ones overwrite same big_endian integer_bytes until_zero members name_byte name_run is_line line_at is_new catalogueLines parse name_bytes key partition_bytes topic_entry topic_bytes topics_below count_below topics value frame first_where count_where sum_of first_refusal name_fits scan_within place_of lowest_free id_count reserved apply admits not_held log_full appended read_tests take_over_tests open_tests opening init_row init_tests init_row_tests init_accepted init all_joined add_row add_tests add_row_tests add_action add overdue overdue_place tick_tests tick_accepted tick flush_tests flush open_partition open_count partitionAdmits last_sequence next_sequence produced partition_full produce_tests produce_row_tests produce read_frame_within judged candidate well_formed valid_name fields_fit joined_fits start_fits integer_of number_from walk past topic_at name_stands partitions_at partitions_of partitions_below with_partition may_come succeeds first follows keeps may_follow_status initializes begins widens prepares_commit prepares_abort completes ack_tests ack_row_tests ack_action ack acknowledged end_fits end_tests end_row_tests end_action end ordered order_place order marker_tests closed marker_action marker oldest next_marker committed copy readOffsetTests read_answer read_out count_trailing_zeros
+unfolding left acknowledged_orders has_name names_of open_leaders run collect collect_with_before ending_by records_of frames_of flushed_of words_of records_read find find_last filter ones overwrite same big_endian integer_bytes until_zero members name_byte name_run is_line line_at is_new catalogue_lines parse name_bytes key partition_bytes topic_entry topic_bytes topics_below count_below topics value frame first_where count_where sum_of first_refusal name_fits scan_within place_of lowest_free id_count reserved apply admits not_held log_full appended read_tests take_over_tests open_tests opening init_row init_tests init_row_tests init_accepted init all_joined add_row add_tests add_row_tests add_action add overdue overdue_place tick_tests tick_accepted tick flush_tests flush open_partition open_count partition_admits last_sequence next_sequence produced partition_full produce_tests produce_row_tests produce read_frame_within judged candidate well_formed valid_name fields_fit joined_fits start_fits integer_of number_from walk past topic_at name_stands partitions_at partitions_of partitions_below with_partition may_come succeeds first follows keeps may_follow_status initializes begins widens prepares_commit prepares_abort completes ack_tests ack_row_tests ack_action ack acknowledged end_fits end_tests end_row_tests end_action end ordered order_place order marker_tests closed marker_action marker oldest next_marker committed copy read_offset_tests read_answer read_out count_trailing_zeros
 displays-hold begun = (refl, refl)
 displays-hold prepare_appended = (refl, refl)
 displays-hold prepare_flushed = (refl, refl)
@@ -59,7 +59,7 @@ displays-hold two_places = (refl, refl)
 displays-hold first_of_two = (refl, refl)
 
 pub counts-hold : (x : Window) → window_counts x ≡ expected_counts x
-unfolding left acknowledged_orders has_name names_of open_leaders run collect collect_with_before ending_by records_of frames_of flushed_of words_of records_read find find_last filter ones overwrite same big_endian integer_bytes until_zero members name_byte name_run is_line line_at is_new catalogueLines parse name_bytes key partition_bytes topic_entry topic_bytes topics_below count_below topics value frame first_where count_where sum_of first_refusal name_fits scan_within place_of lowest_free id_count reserved apply admits not_held log_full appended read_tests take_over_tests open_tests opening init_row init_tests init_row_tests init_accepted init all_joined add_row add_tests add_row_tests add_action add overdue overdue_place tick_tests tick_accepted tick flush_tests flush open_partition open_count partitionAdmits last_sequence next_sequence produced partition_full produce_tests produce_row_tests produce read_frame_within judged candidate well_formed valid_name fields_fit joined_fits start_fits integer_of number_from walk past topic_at name_stands partitions_at partitions_of partitions_below with_partition may_come succeeds first follows keeps may_follow_status initializes begins widens prepares_commit prepares_abort completes ack_tests ack_row_tests ack_action ack acknowledged end_fits end_tests end_row_tests end_action end ordered order_place order marker_tests closed marker_action marker oldest next_marker committed copy readOffsetTests read_answer read_out count_trailing_zeros
+unfolding left acknowledged_orders has_name names_of open_leaders run collect collect_with_before ending_by records_of frames_of flushed_of words_of records_read find find_last filter ones overwrite same big_endian integer_bytes until_zero members name_byte name_run is_line line_at is_new catalogue_lines parse name_bytes key partition_bytes topic_entry topic_bytes topics_below count_below topics value frame first_where count_where sum_of first_refusal name_fits scan_within place_of lowest_free id_count reserved apply admits not_held log_full appended read_tests take_over_tests open_tests opening init_row init_tests init_row_tests init_accepted init all_joined add_row add_tests add_row_tests add_action add overdue overdue_place tick_tests tick_accepted tick flush_tests flush open_partition open_count partition_admits last_sequence next_sequence produced partition_full produce_tests produce_row_tests produce read_frame_within judged candidate well_formed valid_name fields_fit joined_fits start_fits integer_of number_from walk past topic_at name_stands partitions_at partitions_of partitions_below with_partition may_come succeeds first follows keeps may_follow_status initializes begins widens prepares_commit prepares_abort completes ack_tests ack_row_tests ack_action ack acknowledged end_fits end_tests end_row_tests end_action end ordered order_place order marker_tests closed marker_action marker oldest next_marker committed copy read_offset_tests read_answer read_out count_trailing_zeros
 counts-hold one_of_two = refl
 counts-hold two_of_two = refl
 counts-hold from_marker = refl

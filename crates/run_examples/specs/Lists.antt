@@ -1,7 +1,7 @@
 -- What a list can hold: of each argument the least and the greatest that its type has, and one past it, which no call has.
 use Rattle.std.specs.Prelude.{ℕ, List, [], ◌∷◌, ℤ, pos, negsuc}
 use Rattle.coordinator.specs.Calls.{init_call, add_call, end_call, tick_call, flush_call, ack_call}
-use Rattle.writable_logs.specs.Writer.{WriterItem, call as writerCall, restart}
+use Rattle.writable_logs.specs.Writer.{WriterItem, call as writer_call, restart}
 use Rattle.runs.specs.World.{own, another, Item, call, call_order, call_produce, call_read, deliver, acknowledge, cut, reopen}
 
 -- ---- the greatest and the least of each type
@@ -97,11 +97,11 @@ barred_items =
 
 abbrev pub writer_items_held : List WriterItem
 writer_items_held =
-    writerCall (ack_call past_word past64 past16 past_word) ∷
-    writerCall (tick_call least64) ∷
+    writer_call (ack_call past_word past64 past16 past_word) ∷
+    writer_call (tick_call least64) ∷
     restart past_word most32 most64 most64 ∷
     restart 0 least32 least64 least64 ∷
     []
 
 abbrev pub writer_items_barred : List WriterItem
-writer_items_barred = writerCall (tick_call past64) ∷ restart 0 past32 (pos 0) (pos 0) ∷ restart 0 (pos 0) past64 (pos 0) ∷ restart 0 (pos 0) (pos 0) past64 ∷ []
+writer_items_barred = writer_call (tick_call past64) ∷ restart 0 past32 (pos 0) (pos 0) ∷ restart 0 (pos 0) past64 (pos 0) ∷ restart 0 (pos 0) (pos 0) past64 ∷ []

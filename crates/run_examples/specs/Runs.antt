@@ -8,7 +8,7 @@ use Rattle.server.specs.Lines.{rig7, scan_text, lab3}
 use Rattle.runs.specs.History.{records_of, contents}
 use Rattle.coordinator.specs.Calls.{init_call, add_call, end_call, tick_call, flush_call}
 use Rattle.runs.specs.World.{World, FirstOpening, start, own, another, Item, call, call_order, call_produce, call_read, deliver, acknowledge, cut, reopen, run}
-use Rattle.writable_logs.specs.Writer.{WriterItem, call as byWriter, restart}
+use Rattle.writable_logs.specs.Writer.{WriterItem, call as by_writer, restart}
 
 -- a log buffer
 abbrev pub buffer : List ℕ
@@ -96,7 +96,7 @@ after_shared = run shared (start opened)
 -- the calls that leave the first three records
 abbrev pub writer_items : List WriterItem
 writer_items =
-    map byWriter
+    map by_writer
     (init_call rig7 (pos 60000) (pos 100) ∷
     flush_call 53 ∷
     add_call rig7 (pos 1000) (pos 0) both (pos 110) ∷
@@ -107,10 +107,10 @@ writer_items =
 -- two Inits, and between them an opening with another block: the pids have a gap
 abbrev pub gap_items : List WriterItem
 gap_items =
-    byWriter (init_call rig7 (pos 60000) (pos 100)) ∷
-    byWriter (flush_call 53) ∷
+    by_writer (init_call rig7 (pos 60000) (pos 100)) ∷
+    by_writer (flush_call 53) ∷
     restart 53 (pos 2) (pos 1500) (pos 1500) ∷
-    byWriter (init_call lab3 (pos 60000) (pos 110)) ∷
+    by_writer (init_call lab3 (pos 60000) (pos 110)) ∷
     []
 
 -- EMPTY of a name with a new pid

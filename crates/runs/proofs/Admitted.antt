@@ -17,7 +17,7 @@ use Rattle.coordinator.specs.Open.{opening}
 use Rattle.coordinator.specs.declared.Coordinator.{Coordinator}
 use Rattle.coordinator.proofs.OpenCases.{open-number}
 use Rattle.coordinator.proofs.Reserve.{Reserved, admits-length, opening-reserved, opening-room, log-length}
-use Rattle.partition.specs.Partition.{Action as PartitionAction, keep as keepPartition, note, write, after as partitionAfter, admits as partitionAdmits}
+use Rattle.partition.specs.Partition.{Action as PartitionAction, keep as keep_partition, note, write, after as partition_after, admits as partition_admits}
 use Rattle.partition.specs.declared.Partition.{Partition}
 use Rattle.partition.proofs.Reserve.{Reserved as PartitionReserved, admits-length as words-admits, opened-reserved, opened-room}
 use Rattle.writable_logs.proofs.Decisions.{decided-reserved}
@@ -56,8 +56,8 @@ same-room (append place row) s = refl
 same-room (acknowledge place position) s = refl
 same-room (flush_to n) s = refl
 
-same-words-room : (a : PartitionAction) (p : Partition) → (partitionAfter a p).room ≡ p.room
-same-words-room keepPartition p = refl
+same-words-room : (a : PartitionAction) (p : Partition) → (partition_after a p).room ≡ p.room
+same-words-room keep_partition p = refl
 same-words-room (note coordinator place q) p = refl
 same-words-room (write coordinator place q e) p = refl
 
@@ -136,7 +136,7 @@ own-admits w o = record { log = go w.phase o.of-log; words = each-then OwnWords 
     go (up s) k = λ n. admits-length s k.reserved n ∙ ap (eqb n) (sym k.room)
     go (down n epoch) k = tt
 
-    theirs : (l : Leader) → OwnWords l → (n : ℕ) → partitionAdmits l.partition n ≡ eqb n (length l.words)
+    theirs : (l : Leader) → OwnWords l → (n : ℕ) → partition_admits l.partition n ≡ eqb n (length l.words)
     theirs l k n = words-admits l.partition k.reserved n ∙ ap (eqb n) (sym k.room)
 
 -- refusal 8, in every run

@@ -13,7 +13,7 @@ use Rattle.answers.specs.declared.OrderAnswer.TheVariants.{Order as Ordered, NoO
 use Rattle.coordinator.specs.Coordinator.{log_end, Action}
 use Rattle.coordinator.specs.Open.{opening}
 use Rattle.coordinator.specs.declared.Coordinator.{Coordinator}
-use Rattle.partition.specs.Partition.{Action as PartitionAction, after as partitionAfter}
+use Rattle.partition.specs.Partition.{Action as PartitionAction, after as partition_after}
 use Rattle.partition.specs.declared.Partition.{Partition}
 use Rattle.writable_logs.specs.Writer.{opening_reply}
 use Rattle.runs.specs.History.{Order, Event, log_cut, log_opened, order_given}
@@ -50,7 +50,7 @@ module _ (P : World → Type 0) where
 
     pub leader-cases : (lent : Lent) (x : ℕ) (action : Partition → ℕ → PartitionAction) (e : Event) (c : Partition → ℕ → Carrying)
         → (let l = leader_at w x in lent ≡ own → P (leader_does x (action l.partition (length l.words)) e (c l.partition (length l.words)) w))
-        → (let l = leader_at w x in (n : ℕ) → (n ≡ length l.words → ⊥) → P (with_partition w x (partitionAfter (action l.partition n) l.partition) (c l.partition n)))
+        → (let l = leader_at w x in (n : ℕ) → (n ≡ length l.words → ⊥) → P (with_partition w x (partition_after (action l.partition n) l.partition) (c l.partition n)))
         → P (leader_lent lent x action e c w)
     leader-cases own x action e c f g = f refl
     leader-cases (another slice) x action e c f g =

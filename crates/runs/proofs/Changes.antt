@@ -13,7 +13,7 @@ use Rattle.coordinator.specs.Open.{opening}
 use Rattle.coordinator.specs.Order.{order}
 use Rattle.coordinator.specs.Calls.{ack_call, call_typed, action_of}
 use Rattle.coordinator.specs.declared.Coordinator.{Coordinator}
-use Rattle.partition.specs.Partition.{Action as PartitionAction, keep as keepPartition, note, write, after as partitionAfter, words_after}
+use Rattle.partition.specs.Partition.{Action as PartitionAction, keep as keep_partition, note, write, after as partition_after, words_after}
 use Rattle.partition.specs.Marker.{marker}
 use Rattle.partition.specs.declared.Partition.{Partition}
 use Rattle.server.specs.Produce.{produce}
@@ -84,7 +84,7 @@ history-append (acknowledged place position) s new old = refl
 history-append (flush_to n) s new old = refl
 
 pub written-append : (a : PartitionAction) (e : Event) (new old : History) → history_written a e (new ++ old) ≡ history_written a e new ++ old
-written-append keepPartition e new old = refl
+written-append keep_partition e new old = refl
 written-append (note coordinator place q) e new old = refl
 written-append (write coordinator place q words) e new old = refl
 
@@ -106,7 +106,7 @@ acting_elsewhere w s a h = record { text = w.text; log = w.log; phase = up (afte
 abbrev pub leading : World → ℕ → PartitionAction → Carrying → History → World
 leading w y a c h =
     let l = leader_at w y in
-    with_leader w y (record { partition = partitionAfter a l.partition; words = words_after a l.partition l.words }) c h
+    with_leader w y (record { partition = partition_after a l.partition; words = words_after a l.partition l.words }) c h
 
 -- what is to be shown of each of them
 pub record Changes (x : Item) (w : World) (P : World → Type 0) : Type 0 where
@@ -122,7 +122,7 @@ pub record Changes (x : Item) (w : World) (P : World → Type 0) : Type 0 where
       → P (leading w y a c (new ++ w.history))
   -- lent a slice of another length
   pub leads-elsewhere : (y : ℕ) → Touches x w y → (n : ℕ) → (n ≡ length (leader_at w y).words → ⊥) → (a : PartitionAction) → Led (leader_at w y).partition n a → (c : Carrying)
-      → P (with_partition w y (partitionAfter a (leader_at w y).partition) c)
+      → P (with_partition w y (partition_after a (leader_at w y).partition) c)
   pub cuts : is_cut x ≡ true → (s : Coordinator) → w.phase ≡ up s → (n : ℕ) → (leb s.flushed n && leb n (log_end s)) ≡ true
       → P (with_phase w (down n s.epoch) (log_cut n))
   pub reopens : is_reopening x ≡ true → (n before : ℕ) → w.phase ≡ down n before → (epoch first last : ℤ)

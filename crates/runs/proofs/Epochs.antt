@@ -24,14 +24,14 @@ use Rattle.answers.specs.Limits.{places}
 use Rattle.answers.specs.declared.OrderAnswer.{OrderAnswer}
 use Rattle.answers.specs.declared.OrderAnswer.TheVariants.{Order as Ordered, NoOrder}
 use Rattle.answers.proofs.Laws.{or-false-left}
-use Rattle.coordinator.specs.Coordinator.{Action, keep, advance, append, acknowledge as acknowledged, flush_to, appended, acknowledged as acknowledgedAt, after}
+use Rattle.coordinator.specs.Coordinator.{Action, keep, advance, append, acknowledge as acknowledged, flush_to, appended, acknowledged as acknowledged_at, after}
 use Rattle.coordinator.specs.Open.{opening}
 use Rattle.coordinator.specs.Order.{order_place, order}
 use Rattle.coordinator.specs.Calls.{ack_call, action_of}
 use Rattle.coordinator.specs.declared.Coordinator.{Coordinator}
 use Rattle.coordinator.specs.declared.OpenedLog.{OpenedLog}
 use Rattle.coordinator.proofs.OpenCases.{open-number, opening-taken}
-use Rattle.partition.specs.Partition.{Action as PartitionAction, keep as keepPartition, note, write}
+use Rattle.partition.specs.Partition.{Action as PartitionAction, keep as keep_partition, note, write}
 use Rattle.partition.specs.Marker.{marker}
 use Rattle.server.specs.Produce.{produce}
 use Rattle.writable_logs.specs.Writer.{opening_typed, opening_reply, out_of_order}
@@ -68,7 +68,7 @@ same-epochs w v i e (opened, given) =
 
 -- no action changes the coordinator epoch
 pub epoch-kept : (a : Action) (s : Coordinator) → (after a s).epoch ≡ s.epoch
-unfolding appended acknowledgedAt
+unfolding appended acknowledged_at
 epoch-kept keep s = refl
 epoch-kept (advance clock) s = refl
 epoch-kept (append place row) s = refl
@@ -93,13 +93,13 @@ cut-same n h = (refl, refl)
 
 marker-same : (a : PartitionAction) (o : Order) (h : History) → SameOrders (history_written a (marker_written o) h) h
 unfolding collect collect_with_before
-marker-same keepPartition o h = (refl, refl)
+marker-same keep_partition o h = (refl, refl)
 marker-same (note coordinator place q) o h = (refl, refl)
 marker-same (write coordinator place q words) o h = (refl, refl)
 
 entry-same : (a : PartitionAction) (e : Produced) (h : History) → SameOrders (history_written a (entry_written e) h) h
 unfolding collect collect_with_before
-entry-same keepPartition e h = (refl, refl)
+entry-same keep_partition e h = (refl, refl)
 entry-same (note coordinator place q) e h = (refl, refl)
 entry-same (write coordinator place q words) e h = (refl, refl)
 

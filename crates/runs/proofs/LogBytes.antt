@@ -10,7 +10,7 @@ use Rattle.numbers.proofs.Bytes.{take-overwrite}
 use Rattle.numbers.proofs.Tests.{not-both}
 use Rattle.search.specs.Search.{Each}
 use Rattle.table.specs.Table.{apply}
-use Rattle.coordinator.specs.Coordinator.{log_end, row_frame, Action, keep, advance, append, acknowledge as acknowledgeAt, flush_to, appended, acknowledged, after, log_after}
+use Rattle.coordinator.specs.Coordinator.{log_end, row_frame, Action, keep, advance, append, acknowledge as acknowledge_at, flush_to, appended, acknowledged, after, log_after}
 use Rattle.coordinator.specs.declared.Coordinator.{Coordinator}
 use Rattle.coordinator.proofs.Laws.{admits-room}
 use Rattle.writable_logs.proofs.Decisions.{AppendsAdmitted, decided-admitted}
@@ -38,7 +38,7 @@ below_end s log keep h = refl
 below_end s log (advance clock) h = refl
 below_end s log (append place row) h =
     take-overwrite log (log_end s) (row_frame s row) (omega (arith, admits-room s (length log) h))
-below_end s log (acknowledgeAt place position) h = refl
+below_end s log (acknowledge_at place position) h = refl
 below_end s log (flush_to n) h = refl
 
 -- and the end does not fall
@@ -47,7 +47,7 @@ unfolding appended acknowledged apply
 end-rises s keep = omega arith
 end-rises s (advance clock) = omega arith
 end-rises s (append place row) = omega arith
-end-rises s (acknowledgeAt place position) = omega arith
+end-rises s (acknowledge_at place position) = omega arith
 end-rises s (flush_to n) = omega arith
 
 -- ---- an item

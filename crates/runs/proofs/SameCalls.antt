@@ -22,11 +22,11 @@ use Rattle.coordinator.specs.Open.{opening}
 use Rattle.coordinator.specs.Order.{order}
 use Rattle.coordinator.specs.Calls.{CoordinatorCall, ack_call, action_of}
 use Rattle.coordinator.specs.declared.Coordinator.{Coordinator}
-use Rattle.partition.specs.Partition.{Action as PartitionAction, after as partitionAfter, words_after}
+use Rattle.partition.specs.Partition.{Action as PartitionAction, after as partition_after, words_after}
 use Rattle.partition.specs.Marker.{marker}
 use Rattle.partition.specs.declared.Partition.{Partition}
 use Rattle.server.specs.Produce.{produce_tests, produce}
-use Rattle.server.specs.Calls.{Server, Call, open_log, call as serverCall, order_call, produce_call, marker_call, read_call, answer_of, after_call}
+use Rattle.server.specs.Calls.{Server, Call, open_log, call as server_call, order_call, produce_call, marker_call, read_call, answer_of, after_call}
 use Rattle.writable_logs.specs.Writer.{opening_reply}
 use Rattle.runs.specs.History.{Order, Produced, Event, log_opened, entry_written, marker_written, order_carried, History}
 use Rattle.runs.specs.World.{Leader, open_leader, Phase, up, down, Carrying, nothing, to_deliver, to_acknowledge, World, leader_at, own, Item, call, call_order, call_produce, call_read, deliver, acknowledge, reopen, with_event, coordinator_does, history_written, leader_does, lent_partition, order_answered, deliverable, acknowledgeable, once_done, produce_called, marker_called, with_phase, reopened, next}
@@ -50,13 +50,13 @@ module _ (item : Item) (w : World) (s : Coordinator) (c : Call) (x : ℕ) (out :
 
 -- ---- calls of the coordinator
 
-calls : (w : World) (s : Coordinator) → w.phase ≡ up s → (c : CoordinatorCall) (x : ℕ) (out : List ℕ) → SameAsCall (call own c) w s (serverCall c) x out
-calls w s u c x out = same_by (call own c) w s (serverCall c) x out (coordinator_does (action_of c s (length w.log)) s w) _ (while-up w s u _) refl refl (λ y n. refl)
+calls : (w : World) (s : Coordinator) → w.phase ≡ up s → (c : CoordinatorCall) (x : ℕ) (out : List ℕ) → SameAsCall (call own c) w s (server_call c) x out
+calls w s u c x out = same_by (call own c) w s (server_call c) x out (coordinator_does (action_of c s (length w.log)) s w) _ (while-up w s u _) refl refl (λ y n. refl)
 
 acks : (w : World) (s : Coordinator) → w.phase ≡ up s → (i : ℕ) (o : Order) → w.carrying ≡ to_acknowledge i o → (x : ℕ) (out : List ℕ)
-    → SameAsCall (acknowledge own i) w s (serverCall (ack_call o.place o.pid o.epoch o.position)) x out
+    → SameAsCall (acknowledge own i) w s (server_call (ack_call o.place o.pid o.epoch o.position)) x out
 acks w s u i o e x out =
-    same_by (acknowledge own i) w s (serverCall c) x out (coordinator_does (action_of c s (length w.log)) s (with_event w (order_carried o))) _
+    same_by (acknowledge own i) w s (server_call c) x out (coordinator_does (action_of c s (length w.log)) s (with_event w (order_carried o))) _
     (while-up w s u _ ∙ ap (λ (k : Carrying). acknowledgeable k i w f) e ∙ ap (λ (b : Bool). cond b (f o) w) (eq-eqb i i refl)) refl refl (λ y n. refl)
   where
     c : CoordinatorCall
@@ -97,7 +97,7 @@ orders w s u set x out = (
 module _ (item : Item) (w : World) (s : Coordinator) (u : w.phase ≡ up s) (c : Call) (x : ℕ) (out : List ℕ) (inside : x < length w.leaders) (a : PartitionAction) (e : Event) (k : Carrying) where
   -- what the leader is then
   abbrev led : Leader
-  led = record { partition = partitionAfter a (leader_at w x).partition; words = words_after a (leader_at w x).partition (leader_at w x).words }
+  led = record { partition = partition_after a (leader_at w x).partition; words = words_after a (leader_at w x).partition (leader_at w x).words }
 
   abbrev serving : Leader → List ℕ → Server
   serving l read = record { coordinator = s; log = w.log; partition = l.partition; words = l.words; out = read }

@@ -14,7 +14,7 @@ use Rattle.coordinator.specs.Coordinator.{log_end, row_frame, Action, keep, adva
 use Rattle.coordinator.specs.Open.{opening}
 use Rattle.coordinator.specs.Calls.{ack_call, action_of, Writer, acts}
 use Rattle.coordinator.specs.declared.Coordinator.{Coordinator}
-use Rattle.partition.specs.Partition.{Action as PartitionAction, keep as keepPartition, note, write, after as partitionAfter, words_after}
+use Rattle.partition.specs.Partition.{Action as PartitionAction, keep as keep_partition, note, write, after as partition_after, words_after}
 use Rattle.partition.specs.Marker.{marker}
 use Rattle.partition.specs.declared.Partition.{Partition}
 use Rattle.server.specs.Produce.{produce}
@@ -81,7 +81,7 @@ coordinator_lent (another slice) action s w = cond (eqb (length slice) (length w
 
 -- the history after an action, with the event that it writes an entry
 abbrev pub history_written : PartitionAction → Event → History → History
-history_written keepPartition e h = h
+history_written keep_partition e h = h
 history_written (note coordinator place q) e h = h
 history_written (write coordinator place q words) e h = e ∷ h
 
@@ -89,7 +89,7 @@ history_written (write coordinator place q words) e h = e ∷ h
 abbrev pub leader_does : ℕ → PartitionAction → Event → Carrying → World → World
 leader_does x a e c w =
     let l = leader_at w x in
-    with_leader w x (record { partition = partitionAfter a l.partition; words = words_after a l.partition l.words }) c (history_written a e w.history)
+    with_leader w x (record { partition = partition_after a l.partition; words = words_after a l.partition l.words }) c (history_written a e w.history)
 
 -- a slice of another length: the words were not lent
 abbrev pub with_partition : World → ℕ → Partition → Carrying → World
@@ -102,7 +102,7 @@ leader_lent own x action e c w =
 leader_lent (another slice) x action e c w =
     let l = leader_at w x in
     cond (eqb (length slice) (length l.words)) w
-    (with_partition w x (partitionAfter (action l.partition (length slice)) l.partition) (c l.partition (length slice)))
+    (with_partition w x (partition_after (action l.partition (length slice)) l.partition) (c l.partition (length slice)))
 
 -- "its own partition's, any one's for a position outside the catalogue"
 abbrev pub lent_partition : Coordinator → ℕ → ℕ → ℕ

@@ -7,7 +7,7 @@ use Rattle.record.specs.declared.Status.TheVariants.{Empty}
 use Rattle.search.specs.Search.{is_found, found, filter, Each, EachAt}
 use Rattle.answers.specs.Answers.{accepted, read_reply}
 use Rattle.coordinator.specs.Coordinator.{admits}
-use Rattle.partition.specs.Partition.{stable_end, admits as partitionAdmits}
+use Rattle.partition.specs.Partition.{stable_end, admits as partition_admits}
 use Rattle.partition.specs.Read.{stands_under, read_answer, read_out}
 use Rattle.runs.specs.History.{Order, Produced, produced_in, WithBefore, collect_with_before, History, Logged, records_of, marker_over}
 use Rattle.runs.specs.World.{Leader, Phase, up, down, World, leader_at, FirstOpening, start, Accepted, Item, run}
@@ -22,7 +22,7 @@ AdmitsLog (down n epoch) w = Unit {0}
 -- Not met by an End that meets its own buffer with 8 because the reserve is spent, nor by a state that takes a longer slice.
 pub record AdmitsExactly (w : World) : Type 0 where
   pub log : AdmitsLog w.phase w
-  pub words : Each (λ (l : Leader). (n : ℕ) → partitionAdmits l.partition n ≡ eqb n (length l.words)) w.leaders
+  pub words : Each (λ (l : Leader). (n : ℕ) → partition_admits l.partition n ≡ eqb n (length l.words)) w.leaders
 
 -- ---- Read
 

@@ -7,7 +7,7 @@ use Rattle.record.specs.Limits.{name_max}
 use Rattle.answers.specs.Answers.{Reply, accepted}
 use Rattle.coordinator.specs.Calls.{CoordinatorCall, ack_call}
 use Rattle.coordinator.specs.declared.Coordinator.{Coordinator}
-use Rattle.server.specs.Calls.{Server, Call, open_log, call as serverCall, order_call, produce_call, marker_call, read_call, answer_of, after_call}
+use Rattle.server.specs.Calls.{Server, Call, open_log, call as server_call, order_call, produce_call, marker_call, read_call, answer_of, after_call}
 use Rattle.runs.specs.History.{Order, Produced, order_given, entry_written, History}
 use Rattle.runs.specs.World.{up, down, Carrying, nothing, to_deliver, to_acknowledge, World, leader_at, own, Item, call, call_order, call_produce, call_read, deliver, acknowledge, reopen, lent_partition, next}
 
@@ -44,7 +44,7 @@ pub record MarkerTaken (r : Reply) (i : ℕ) (o : Order) (after : Carrying) : Ty
 -- acknowledges what its partition refused.
 pub record SameCalls : Type 0 where
   -- Init, Add, End, Tick, Flush; an Ack too, which is in a list only as it is carried
-  pub calls : (w : World) (s : Coordinator) → w.phase ≡ up s → (c : CoordinatorCall) (x : ℕ) (out : List ℕ) → SameAsCall (call own c) w s (serverCall c) x out
+  pub calls : (w : World) (s : Coordinator) → w.phase ≡ up s → (c : CoordinatorCall) (x : ℕ) (out : List ℕ) → SameAsCall (call own c) w s (server_call c) x out
   pub orders : (w : World) (s : Coordinator) → w.phase ≡ up s → (set x : ℕ) (out : List ℕ)
       → SameAsCall (call_order set) w s (order_call set) x out
       × OrderTaken (answer_of (order_call set) (server_at s w x out)) w (next (call_order set) w) (next (call_order set) w).carrying
@@ -61,7 +61,7 @@ pub record SameCalls : Type 0 where
       → let c = marker_call o.place o.pid o.epoch o.verdict o.coordinator in
       SameAsCall (deliver own i) w s c o.position out × MarkerTaken (answer_of c (server_at s w o.position out)) i o (next (deliver own i) w).carrying
   pub acks : (w : World) (s : Coordinator) → w.phase ≡ up s → (i : ℕ) (o : Order) → w.carrying ≡ to_acknowledge i o → (x : ℕ) (out : List ℕ)
-      → SameAsCall (acknowledge own i) w s (serverCall (ack_call o.place o.pid o.epoch o.position)) x out
+      → SameAsCall (acknowledge own i) w s (server_call (ack_call o.place o.pid o.epoch o.position)) x out
   -- "Openings, given the length left as log length, follow until one is accepted"
   pub openings : (w : World) (n before : ℕ) → w.phase ≡ down n before → (epoch first last : ℤ) → le_z (pos before) epoch ≡ true → (s : Coordinator) (x : ℕ) (out : List ℕ)
       → let c = open_log w.text n epoch first last in

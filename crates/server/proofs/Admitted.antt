@@ -32,7 +32,7 @@ use Rattle.coordinator.specs.Flush.{flush}
 use Rattle.coordinator.specs.Ack.{ack_row_tests, ack_tests, ack}
 use Rattle.coordinator.proofs.OpenCases.{open-number}
 use Rattle.coordinator.proofs.Reserve.{Reserved, admits-length, opening-reserved, opening-room, init-reserved, add-reserved, end-reserved, tick-reserved, flush-reserved, ack-reserved, log-length}
-use Rattle.partition.specs.Partition.{admits as partitionAdmits, keep as partitionKeep, Action as PartitionAction}
+use Rattle.partition.specs.Partition.{admits as partition_admits, keep as partition_keep, Action as PartitionAction}
 use Rattle.partition.specs.Marker.{marker_tests, marker}
 use Rattle.partition.specs.Read.{read_tests}
 use Rattle.partition.specs.declared.Partition.{Partition}
@@ -49,7 +49,7 @@ pub produce-keeps : (s : Coordinator) (p : Partition) (n : ℕ) (name : List ℕ
     → Keeps p (produce s p n name pid epoch position sequence payload).action
 unfolding produce
 produce-keeps s p n name pid epoch position sequence payload r =
-    unless-does (first_refusal (produce_tests s p n name pid epoch position sequence)) ProduceRefused partitionKeep _ (Keeps p) (keep-keeps p r)
+    unless-does (first_refusal (produce_tests s p n name pid epoch position sequence)) ProduceRefused partition_keep _ (Keeps p) (keep-keeps p r)
     (λ e. data-keeps p r _ _ payload (produce-passed s p n name pid epoch position sequence payload e).room)
 
 -- ---- what every call keeps
@@ -158,7 +158,7 @@ all-keeps (c ∷ calls) s r =
 log-admitted : (s : Server) → Reserves s → Own s → not (admits s.coordinator (length s.log)) ≡ false
 log-admitted s r o = ap not (admits-length s.coordinator r.of-log (length s.log) ∙ eq-eqb _ _ o.of-log)
 
-words-admitted : (s : Server) → Reserves s → Own s → not (partitionAdmits s.partition (length s.words)) ≡ false
+words-admitted : (s : Server) → Reserves s → Own s → not (partition_admits s.partition (length s.words)) ≡ false
 words-admitted s r o = ap not (words-admits s.partition r.of_words (length s.words) ∙ eq-eqb _ _ o.of_words)
 
 -- the first test does not apply, and no other has the number 8
@@ -198,9 +198,9 @@ never-8 (order_call up) s r o e = without 8 (order_call up) s refl e
 never-8 (call (ack_call place pid epoch position)) s r o e =
     decided (λ (a : Answer). (reply a).number) Refused keep (ack_tests s.coordinator (length s.log) place pid epoch position) _ refl (λ k. refl) (log-admitted s r o, refl) e
 never-8 (produce_call name pid epoch position sequence payload) s r o e =
-    decided (λ (a : ProduceAnswer). (produce_reply a).number) ProduceRefused partitionKeep (produce_tests s.coordinator s.partition (length s.words) name pid epoch position sequence) _ refl (λ k. refl) (words-admitted s r o, refl) e
+    decided (λ (a : ProduceAnswer). (produce_reply a).number) ProduceRefused partition_keep (produce_tests s.coordinator s.partition (length s.words) name pid epoch position sequence) _ refl (λ k. refl) (words-admitted s r o, refl) e
 never-8 (marker_call place pid epoch verdict coordinator) s r o e =
-    decided (λ (a : Answer). (reply a).number) Refused partitionKeep (marker_tests s.partition (length s.words) place pid epoch verdict coordinator) _ refl (λ k. refl) (words-admitted s r o, refl) e
+    decided (λ (a : Answer). (reply a).number) Refused partition_keep (marker_tests s.partition (length s.words) place pid epoch verdict coordinator) _ refl (λ k. refl) (words-admitted s r o, refl) e
 never-8 (read_call from) s r o e =
     not-8 (read_tests s.partition (length s.words) from) (words-admitted s r o, refl) (sym (read_number s.partition s.words from s.out) ∙ e)
 

@@ -37,9 +37,9 @@ use Rattle.coordinator.specs.Flush.{flush_tests, flush}
 use Rattle.coordinator.specs.Order.{order_place, order}
 use Rattle.coordinator.specs.Ack.{ack_row_tests, ack_tests, ack}
 use Rattle.coordinator.proofs.OpenCases.{open-number}
-use Rattle.partition.specs.Partition.{Action as PartitionAction, keep as partitionKeep}
+use Rattle.partition.specs.Partition.{Action as PartitionAction, keep as partition_keep}
 use Rattle.partition.specs.Marker.{marker_tests, marker}
-use Rattle.partition.specs.Read.{read_tests as readOffsetTests, read_answer, read_out}
+use Rattle.partition.specs.Read.{read_tests as read_offset_tests, read_answer, read_out}
 use Rattle.server.specs.Produce.{produce_row_tests, produce_tests, produce}
 use Rattle.server.specs.Calls.{Server, Call, open_log, open_words, call, order_call, produce_call, marker_call, read_call, answer_of, after_call, coordinator_does, partition_does, with_out}
 use Rattle.server.specs.Demand1.{refusals_of, Demand1}
@@ -73,15 +73,15 @@ order-done s up = by_cases (λ (a : OrderAnswer). (order_reply a).number ≡ 0) 
 
 -- ---- the calls that are not decided so
 
-pub read_number : (p : Partition) (words : List ℕ) (from : ℕ) (out : List ℕ) → (read_reply (read_answer p words from out)).number ≡ first_refusal (readOffsetTests p (length words) from)
+pub read_number : (p : Partition) (words : List ℕ) (from : ℕ) (out : List ℕ) → (read_reply (read_answer p words from out)).number ≡ first_refusal (read_offset_tests p (length words) from)
 unfolding read_answer
 read_number p words from out =
-    by_cases (λ (a : ReadAnswer). (read_reply a).number ≡ first_refusal (readOffsetTests p (length words) from)) (eqb (first_refusal (readOffsetTests p (length words) from)) 0) (λ t. sym (eqb-true _ 0 t)) (λ t. refl)
+    by_cases (λ (a : ReadAnswer). (read_reply a).number ≡ first_refusal (read_offset_tests p (length words) from)) (eqb (first_refusal (read_offset_tests p (length words) from)) 0) (λ t. sym (eqb-true _ 0 t)) (λ t. refl)
 
 read_keeps : (p : Partition) (words : List ℕ) (from : ℕ) (out : List ℕ) → ((read_reply (read_answer p words from out)).number ≡ 0 → ⊥) → read_out p words from out ≡ out
 unfolding read_out
 read_keeps p words from out h =
-    by_cases (λ (l : List ℕ). l ≡ out) (eqb (first_refusal (readOffsetTests p (length words) from)) 0) (λ t. absurd (h (read_number p words from out ∙ eqb-true _ 0 t))) (λ t. refl)
+    by_cases (λ (l : List ℕ). l ≡ out) (eqb (first_refusal (read_offset_tests p (length words) from)) 0) (λ t. absurd (h (read_number p words from out ∙ eqb-true _ 0 t))) (λ t. refl)
 
 -- ---- the two sentences
 
@@ -89,7 +89,7 @@ numbered-as : (k : ℕ) (tests : List Test) → k ≡ first_refusal tests → am
 numbered-as k tests e = subst (λ (n : ℕ). among n (0 ∷ numbers_of tests) ≡ true) (sym e) (first-among tests)
 
 numbered : (c : Call) (s : Server) → among (answer_of c s).number (0 ∷ refusals_of c) ≡ true
-unfolding numbers_of init init_tests init_row_tests add add_tests add_row_tests end end_tests end_row_tests tick tick_tests flush flush_tests ack ack_tests ack_row_tests produce produce_tests produce_row_tests marker marker_tests open_tests read_tests take_over_tests readOffsetTests
+unfolding numbers_of init init_tests init_row_tests add add_tests add_row_tests end end_tests end_row_tests tick tick_tests flush flush_tests ack ack_tests ack_row_tests produce produce_tests produce_row_tests marker marker_tests open_tests read_tests take_over_tests read_offset_tests
 numbered (open_log text n epoch first last) s =
     numbered-as _ (open_tests text s.log n epoch first last) (open-number text s.log n epoch first last)
 numbered open_words s = unfold among in refl
@@ -106,17 +106,17 @@ numbered (order_call up) s = numbered-as _ [] (unfold first_refusal in order-don
 numbered (call (ack_call place pid epoch position)) s =
     numbered-by (λ (a : Answer). (reply a).number) Refused keep (ack_tests s.coordinator (length s.log) place pid epoch position) _ refl refl
 numbered (produce_call name pid epoch position sequence payload) s =
-    numbered-by (λ (a : ProduceAnswer). (produce_reply a).number) ProduceRefused partitionKeep
+    numbered-by (λ (a : ProduceAnswer). (produce_reply a).number) ProduceRefused partition_keep
     (produce_tests s.coordinator s.partition (length s.words) name pid epoch position sequence) _ refl refl
 numbered (marker_call place pid epoch verdict coordinator) s =
-    numbered-by (λ (a : Answer). (reply a).number) Refused partitionKeep (marker_tests s.partition (length s.words) place pid epoch verdict coordinator) _ refl refl
-numbered (read_call from) s = numbered-as _ (readOffsetTests s.partition (length s.words) from) (read_number s.partition s.words from s.out)
+    numbered-by (λ (a : Answer). (reply a).number) Refused partition_keep (marker_tests s.partition (length s.words) place pid epoch verdict coordinator) _ refl refl
+numbered (read_call from) s = numbered-as _ (read_offset_tests s.partition (length s.words) from) (read_number s.partition s.words from s.out)
 
 -- a call that does nothing leaves all as it was
 still : (a : Action) (s : Server) → a ≡ keep → coordinator_does a s ≡ s
 still a s e = ap (λ (x : Action). coordinator_does x s) e
 
-still-at : (a : PartitionAction) (s : Server) → a ≡ partitionKeep → partition_does a s ≡ s
+still-at : (a : PartitionAction) (s : Server) → a ≡ partition_keep → partition_does a s ≡ s
 still-at a s e = ap (λ (x : PartitionAction). partition_does x s) e
 
 unchanged : (c : Call) (s : Server) → ((answer_of c s).number ≡ 0 → ⊥) → after_call c s ≡ s
@@ -137,9 +137,9 @@ unchanged (order_call up) s h = refl
 unchanged (call (ack_call place pid epoch position)) s h =
     still _ s (kept_by_lem (λ (a : Answer). (reply a).number) Refused keep (ack_tests s.coordinator (length s.log) place pid epoch position) _ refl refl h)
 unchanged (produce_call name pid epoch position sequence payload) s h =
-    still-at _ s (kept_by_lem (λ (a : ProduceAnswer). (produce_reply a).number) ProduceRefused partitionKeep (produce_tests s.coordinator s.partition (length s.words) name pid epoch position sequence) _ refl refl h)
+    still-at _ s (kept_by_lem (λ (a : ProduceAnswer). (produce_reply a).number) ProduceRefused partition_keep (produce_tests s.coordinator s.partition (length s.words) name pid epoch position sequence) _ refl refl h)
 unchanged (marker_call place pid epoch verdict coordinator) s h =
-    still-at _ s (kept_by_lem (λ (a : Answer). (reply a).number) Refused partitionKeep (marker_tests s.partition (length s.words) place pid epoch verdict coordinator) _ refl refl h)
+    still-at _ s (kept_by_lem (λ (a : Answer). (reply a).number) Refused partition_keep (marker_tests s.partition (length s.words) place pid epoch verdict coordinator) _ refl refl h)
 unchanged (read_call from) s h = ap (with_out s) (read_keeps s.partition s.words from s.out h)
 
 pub demand-1 : Demand1

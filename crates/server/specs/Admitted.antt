@@ -3,7 +3,7 @@ use Rattle.std.specs.Prelude.{ℕ, ◌≡◌, List, [], ◌∷◌, eqb, ℤ, len
 use Rattle.answers.specs.Answers.{open_reply}
 use Rattle.coordinator.specs.Coordinator.{admits}
 use Rattle.coordinator.specs.Open.{opening}
-use Rattle.partition.specs.Partition.{open_partition, admits as partitionAdmits}
+use Rattle.partition.specs.Partition.{open_partition, admits as partition_admits}
 use Rattle.server.specs.Calls.{Server, Call, answer_of, after_call}
 use Rattle.server.specs.Lines.{after_all}
 
@@ -29,7 +29,7 @@ after_each (x ∷ xs) s = after_each xs (after_next x s)
 -- "8 log buffer or partition slice not of the length it was opened with"
 pub record Admits (s : Server) : Type 0 where
   pub of-log : (n : ℕ) → admits s.coordinator n ≡ eqb n s.coordinator.room
-  pub of_words : (n : ℕ) → partitionAdmits s.partition n ≡ eqb n s.partition.room
+  pub of_words : (n : ℕ) → partition_admits s.partition n ≡ eqb n s.partition.room
 
 pub record Admitted : Type 0 where
   -- with whatever buffers and calls

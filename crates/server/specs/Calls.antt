@@ -6,7 +6,7 @@ use Rattle.coordinator.specs.Open.{opening}
 use Rattle.coordinator.specs.Order.{order}
 use Rattle.coordinator.specs.Calls.{CoordinatorCall, Writer, acts, answered, perform}
 use Rattle.coordinator.specs.declared.Coordinator.{Coordinator}
-use Rattle.partition.specs.Partition.{open_partition, after as partitionAfter, words_after, Action as PartitionAction}
+use Rattle.partition.specs.Partition.{open_partition, after as partition_after, words_after, Action as PartitionAction}
 use Rattle.partition.specs.Marker.{marker}
 use Rattle.partition.specs.Read.{read_answer, read_out}
 use Rattle.partition.specs.declared.Partition.{Partition}
@@ -65,7 +65,7 @@ partition_does a s =
     record {
       coordinator = s.coordinator;
       log = s.log;
-      partition = partitionAfter a s.partition;
+      partition = partition_after a s.partition;
       words = words_after a s.partition s.words;
       out = s.out;
     }

@@ -58,14 +58,14 @@ module _ (words : List ℕ) (index : ℕ) where
 
 -- ---- a call
 
-module _ (s : Session) (log words payloads : List ℕ) (index : ℕ) {Answer : Type 0} (toReply : Answer → Reply) {told : Reply} {afterwards : Session} where
+module _ (s : Session) (log words payloads : List ℕ) (index : ℕ) {Answer : Type 0} (to_reply : Answer → Reply) {told : Reply} {afterwards : Session} where
   -- of the coordinator: the partitions and their words are as they were
   pub coordinator-performs : (d : Decision Answer Action) {answer : Answer} {state : Coordinator} {left : List ℕ}
       → CoordinatorPerformed d s.coordinator log answer state left
-      → told ≡ toReply answer
+      → told ≡ to_reply answer
       → afterwards ≡ record { coordinator = state; partitions = s.partitions }
-      → (told ≡ toReply d.answer) × (memory afterwards left words payloads ≡ with_server index (memory s log words payloads) (coordinator_does d.action (server_at index (memory s log words payloads))))
-  coordinator-performs d (a, t, l) e u = (e ∙ ap toReply a, rw (set-get_or, own-words words index, u, t, l))
+      → (told ≡ to_reply d.answer) × (memory afterwards left words payloads ≡ with_server index (memory s log words payloads) (coordinator_does d.action (server_at index (memory s log words payloads))))
+  coordinator-performs d (a, t, l) e u = (e ∙ ap to_reply a, rw (set-get_or, own-words words index, u, t, l))
 
   -- of the partition with index i, that was lent its words: the coordinator and the log are as they were
   pub partition-performs : (decide : Partition → ℕ → Decision Answer PartitionAction) {i : ℕ} {p : Partition} {start : ℕ} {answer : Answer} {state : Partition} {left : List ℕ}
@@ -73,15 +73,15 @@ module _ (s : Session) (log words payloads : List ℕ) (index : ℕ) {Answer : T
       → p ≡ partition_at s i
       → start ≡ i * share words
       → PartitionPerformed (decide p (length (lent_words words start))) p (lent_words words start) answer state left
-      → told ≡ toReply answer
+      → told ≡ to_reply answer
       → afterwards ≡ record { coordinator = s.coordinator; partitions = set s.partitions i state }
       → let d = decide (partition_at s index) (length (words_at words index)) in
-      (told ≡ toReply d.answer)
+      (told ≡ to_reply d.answer)
       × (memory afterwards log (put_mid start (start + share words - start) words left) payloads ≡ with_server index (memory s log words payloads) (partition_does d.action (server_at index (memory s log words payloads))))
   partition-performs decide {start = start} {left = left} e q z f r u =
       let at-start : start ≡ index * share words = z ∙ ap (λ (k : ℕ). k * share words) e in
       let g = rw (lent-words words index start at-start, q ∙ ap (partition_at s) e) at f in
-      (r ∙ ap toReply g.0, rw (put_back words index start left at-start, u, e, g.1, g.2))
+      (r ∙ ap to_reply g.0, rw (put_back words index start left at-start, u, e, g.1, g.2))
 
 -- a server as it was
 pub as_it_was : (index : ℕ) (m : Memory) → m ≡ with_server index m (server_at index m)

@@ -147,5 +147,5 @@ PerformsOnWords does s words r left = (log payloads : List ℕ) → Performs (do
 
 -- the log buffer and the words
 abbrev pub PerformsOnBoth : (Memory → Outcome) → Session → List ℕ → List ℕ → Performed → List ℕ → List ℕ → Type 0
-PerformsOnBoth does s log words r logLeft wordsLeft =
-    (payloads : List ℕ) → Performs (does (memory s log words payloads)) r logLeft wordsLeft payloads
+PerformsOnBoth does s log words r log_left words_left =
+    (payloads : List ℕ) → Performs (does (memory s log words payloads)) r log_left words_left payloads

@@ -12,8 +12,8 @@ use Rattle.numbers.specs.Bytes.{overwrite, same}
 use Rattle.numbers.specs.Padded.{until_zero}
 use Rattle.bits.specs.Bits.{member}
 use Rattle.search.specs.Search.{Each, sum_of}
-use Rattle.catalogue.specs.Catalogue.{name_byte, name_run, is_line, line_at, is_new, lines as catalogueLines, parse}
-use Rattle.answers.specs.Answers.{accepted as acceptedReply, refused}
+use Rattle.catalogue.specs.Catalogue.{name_byte, name_run, is_line, line_at, is_new, lines as catalogue_lines, parse}
+use Rattle.answers.specs.Answers.{accepted as accepted_reply, refused}
 use Rattle.answers.specs.Refusals.{first_refusal}
 use Rattle.answers.proofs.Laws.{none_is}
 use Rattle.table.specs.Table.{reserved}
@@ -54,7 +54,7 @@ use Rattle.session_runs.proofs.Cuts.{cut-shown, cut-accepted}
 
 -- an empty log opens, whatever stands in the buffer
 tests-pass : (log : List ℕ) → first_refusal (open_tests catalogue_text log 0 first_epoch first_pid last_pid) ≡ 0
-unfolding overwrite same until_zero name_byte name_run is_line line_at is_new catalogueLines parse scan_within reserved sum_of read_tests take_over_tests open_tests
+unfolding overwrite same until_zero name_byte name_run is_line line_at is_new catalogue_lines parse scan_within reserved sum_of read_tests take_over_tests open_tests
 tests-pass log =
     none_is (open_tests catalogue_text log 0 first_epoch first_pid last_pid) (refl, (le-ltb (length log) 0 (omega arith), (refl, (refl, (le-ltb (length log) 0 (omega arith), tt)))))
 
@@ -133,7 +133,7 @@ every-session-runs log words payloads lines ts =
       reads-committed = in-every-run.reads-committed o (accepted log words) items;
       admits-exactly = in-every-run.admits-exactly o (accepted log words) items;
       displays = λ place line.
-          unfold performed in ap (λ (n : ℕ). acceptedReply (pos n ∷ [])) (exact-orders.shows o (accepted log words) items _ (shown-server _ _ s).phase place);
+          unfold performed in ap (λ (n : ℕ). accepted_reply (pos n ∷ [])) (exact-orders.shows o (accepted log words) items _ (shown-server _ _ s).phase place);
       carried = λ up line t. unfold performed in carry-accepted _ s.leaders s.carrying s.history s.held (subst Invariant s.is inv) up t _ refl;
       restarts = λ kept line low left. unfold performed in cut-accepted _ s.leaders s.carrying s.history s.held kept (subst Invariant s.is inv) low left;
     }

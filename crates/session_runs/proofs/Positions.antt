@@ -10,14 +10,14 @@ use Rattle.numbers.specs.Padded.{until_zero}
 use Rattle.numbers.proofs.Tests.{not-both}
 use Rattle.bits.specs.Bits.{member}
 use Rattle.bits.proofs.Laws.{member_below}
-use Rattle.catalogue.specs.Catalogue.{name_byte, name_run, is_line, line_at, is_new, lines as catalogueLines, parse}
+use Rattle.catalogue.specs.Catalogue.{name_byte, name_run, is_line, line_at, is_new, lines as catalogue_lines, parse}
 use Rattle.server.specs.Lines.{catalogue_text}
 use Rattle.session.specs.Limits.{partitions}
 use Rattle.session.specs.Memory.{index_of}
 
 -- scan has the positions 0 and 1, cert has 8
 pub all-positions : (parse catalogue_text).catalogue.all ≡ 259
-unfolding overwrite same until_zero name_byte name_run is_line line_at is_new catalogueLines parse
+unfolding overwrite same until_zero name_byte name_run is_line line_at is_new catalogue_lines parse
 all-positions = refl
 
 -- the position of a partition

@@ -9,7 +9,7 @@ use lib.Seq.{set-get_or}
 use Rattle.bits.specs.Bits.{member}
 use Rattle.catalogue.specs.declared.Catalogue.{Catalogue}
 use Rattle.coordinator.specs.Calls.{CoordinatorCall, action_of, call_typed}
-use Rattle.partition.specs.Partition.{Action as PartitionAction, after as partitionAfter, words_after}
+use Rattle.partition.specs.Partition.{Action as PartitionAction, after as partition_after, words_after}
 use Rattle.partition.specs.declared.Partition.{Partition}
 use Rattle.partition.proofs.Fits.{Fits}
 use Rattle.server.specs.Calls.{coordinator_does, partition_does, with_out}
@@ -44,13 +44,13 @@ module _ (m : Memory) (leaders : List Leader) (k : Carrying) (h : History) (held
     leader_left x =
         let l = get_or leaders x (open_leader []) in
         let a = decide l.partition (length l.words) in
-        record { partition = partitionAfter a l.partition; words = words_after a l.partition l.words }
+        record { partition = partition_after a l.partition; words = words_after a l.partition l.words }
 
     pub leader-held : (x : ℕ) → x ≡ position_of index → Held (with_server index m (partition_does decided (server_at index m))) (set leaders x (leader_left x))
     leader-held x at =
         subst (λ (y : ℕ). Held (with_server index m (partition_does decided (server_at index m))) (set leaders y (leader_left y))) (sym at)
         (subst (λ (a : PartitionAction). Held (with_server index m (partition_does decided (server_at index m)))
-        (set leaders (position_of index) (record { partition = partitionAfter a (get_or leaders (position_of index) (open_leader [])).partition; words = words_after a (get_or leaders (position_of index) (open_leader [])).partition (get_or leaders (position_of index) (open_leader [])).words })))
+        (set leaders (position_of index) (record { partition = partition_after a (get_or leaders (position_of index) (open_leader [])).partition; words = words_after a (get_or leaders (position_of index) (open_leader [])).partition (get_or leaders (position_of index) (open_leader [])).words })))
         (ap (λ (l : Leader). decide l.partition (length l.words)) (sym (held.at_position index inside)))
         (partition-did m leaders held index inside decided (fits _ _)))
 

@@ -10,7 +10,7 @@ use lib.Seq.{get_or-set_same, get_or-set_other}
 use borrow.Author.Tests.{eqb-true, eqb-false}
 use Rattle.catalogue.specs.Limits.{positions}
 use Rattle.coordinator.specs.Coordinator.{Action, after, log_after}
-use Rattle.partition.specs.Partition.{open_partition, Action as PartitionAction, after as partitionAfter, words_after}
+use Rattle.partition.specs.Partition.{open_partition, Action as PartitionAction, after as partition_after, words_after}
 use Rattle.partition.proofs.Fits.{Fits, fits-length}
 use Rattle.server.specs.Calls.{coordinator_does, partition_does}
 use Rattle.server.specs.Lines.{catalogue_text}
@@ -69,7 +69,7 @@ module _ (m : Memory) (leaders : List Leader) (held : Held m leaders) where
     leader = get_or leaders (position_of index) (open_leader [])
 
     abbrev pub leader_after : Leader
-    leader_after = record { partition = partitionAfter a leader.partition; words = words_after a leader.partition leader.words }
+    leader_after = record { partition = partition_after a leader.partition; words = words_after a leader.partition leader.words }
 
     abbrev pub memory_after : Memory
     memory_after = with_server index m (partition_does a (server_at index m))

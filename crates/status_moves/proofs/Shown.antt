@@ -12,7 +12,7 @@ use Rattle.numbers.specs.Bytes.{overwrite, same}
 use Rattle.numbers.specs.Integers.{big_endian, integer_bytes, integer_of, number_from}
 use Rattle.numbers.specs.Padded.{until_zero, padded}
 use Rattle.bits.specs.Bits.{members}
-use Rattle.catalogue.specs.Catalogue.{name_byte, name_run, is_line, line_at, is_new, lines as catalogueLines, parse}
+use Rattle.catalogue.specs.Catalogue.{name_byte, name_run, is_line, line_at, is_new, lines as catalogue_lines, parse}
 use Rattle.catalogue.specs.declared.Catalogue.{Catalogue}
 use Rattle.record.specs.Frame.{key, partition_bytes, topic_entry, topic_bytes, topics_below, count_below, topics, value, frame}
 use Rattle.record.specs.Limits.{name_max}
@@ -107,9 +107,9 @@ shown_is_set held new = not (shows held new) || move_flag (status_code held) (st
 
 -- each computed over the whole table
 pub set-shown : every_status (λ held. every_status (set_is_shown held)) ≡ true
-unfolding ones overwrite same big_endian integer_bytes until_zero members name_byte name_run is_line line_at is_new catalogueLines parse name_bytes key partition_bytes topic_entry topic_bytes topics_below count_below topics value frame frames_of first_where count_where sum_of first_refusal name_fits scan_within place_of lowest_free reserved apply read_tests take_over_tests open_tests opening read_frame_within judged candidate well_formed valid_name fields_fit joined_fits start_fits integer_of number_from walk past topic_at name_stands partitions_at partitions_of partitions_below with_partition may_come succeeds first follows keeps may_follow_status initializes begins widens prepares_commit prepares_abort completes count_trailing_zeros sample inactive active records log_length log_buffer successor opened_log accepts shows
+unfolding ones overwrite same big_endian integer_bytes until_zero members name_byte name_run is_line line_at is_new catalogue_lines parse name_bytes key partition_bytes topic_entry topic_bytes topics_below count_below topics value frame frames_of first_where count_where sum_of first_refusal name_fits scan_within place_of lowest_free reserved apply read_tests take_over_tests open_tests opening read_frame_within judged candidate well_formed valid_name fields_fit joined_fits start_fits integer_of number_from walk past topic_at name_stands partitions_at partitions_of partitions_below with_partition may_come succeeds first follows keeps may_follow_status initializes begins widens prepares_commit prepares_abort completes count_trailing_zeros sample inactive active records log_length log_buffer successor opened_log accepts shows
 set-shown = refl
 
 pub shown-set : every_status (λ held. every_status (shown_is_set held)) ≡ true
-unfolding ones overwrite same big_endian integer_bytes until_zero members name_byte name_run is_line line_at is_new catalogueLines parse name_bytes key partition_bytes topic_entry topic_bytes topics_below count_below topics value frame frames_of first_where count_where sum_of first_refusal name_fits scan_within place_of lowest_free reserved apply read_tests take_over_tests open_tests opening read_frame_within judged candidate well_formed valid_name fields_fit joined_fits start_fits integer_of number_from walk past topic_at name_stands partitions_at partitions_of partitions_below with_partition may_come succeeds first follows keeps may_follow_status initializes begins widens prepares_commit prepares_abort completes count_trailing_zeros sample inactive active records log_length log_buffer successor opened_log accepts shows
+unfolding ones overwrite same big_endian integer_bytes until_zero members name_byte name_run is_line line_at is_new catalogue_lines parse name_bytes key partition_bytes topic_entry topic_bytes topics_below count_below topics value frame frames_of first_where count_where sum_of first_refusal name_fits scan_within place_of lowest_free reserved apply read_tests take_over_tests open_tests opening read_frame_within judged candidate well_formed valid_name fields_fit joined_fits start_fits integer_of number_from walk past topic_at name_stands partitions_at partitions_of partitions_below with_partition may_come succeeds first follows keeps may_follow_status initializes begins widens prepares_commit prepares_abort completes count_trailing_zeros sample inactive active records log_length log_buffer successor opened_log accepts shows
 shown-set = refl

@@ -5,7 +5,6 @@ use native.Mathlib.Omega.{arith}
 use Prim.Native.Nat.{◌^◌}
 use lib.Bits.{bit_or}
 use lib.Pow.{shl_exact}
-use borrow.Author.Rules.{rules}
 use Rattle.bits.proofs.Laws.{insert-in, insert-past}
 use Rattle.bits.proofs.insert.Goals as goal
 

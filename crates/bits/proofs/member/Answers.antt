@@ -1,7 +1,6 @@
 -- `bits::member` meets its contract: from 64 on no position is a member.
 use mathlib.Core.Path.{sym}
 use native.Mathlib.Omega.{arith}
-use borrow.Author.Rules.{rules}
 use Rattle.bits.proofs.Laws.{bit_high, member-is-not}
 use Rattle.bits.proofs.member.Goals as goal
 

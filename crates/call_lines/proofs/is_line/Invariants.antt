@@ -1,7 +1,6 @@
 -- `call_lines::is_line`: what its loops keep.
 use Prim.Native.Nat.{◌-◌, ◌≤◌}
 use lib.ListN.{length}
-use borrow.Author.Rules.{rules}
 use Rattle.call_lines.proofs.is_line.Given as goal
 
 abbrev pub invariant-loop-k : goal.invariant-loop-k

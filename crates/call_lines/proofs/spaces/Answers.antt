@@ -1,9 +1,7 @@
 -- `call_lines::spaces` meets its contract.
-use Prim.Native.Nat.{◌-◌, ◌≤◌}
-use lib.ListN.{length}
+use Prim.Native.Nat.{◌-◌}
 use mathlib.Core.Logic.{⊎_elim}
 use native.Mathlib.Omega.{arith}
-use borrow.Author.Rules.{rules}
 use Rattle.call_lines.proofs.spaces.Goals as goal
 
 pub loop-i-preserved : goal.loop-i-preserved

@@ -1,5 +1,4 @@
 -- `calls::flush` meets its contract.
-use borrow.Author.Rules.{rules}
 use Rattle.calls.proofs.Laws.{flush-meets}
 use Rattle.calls.proofs.flush.Goals as goal
 

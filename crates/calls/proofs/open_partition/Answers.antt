@@ -1,6 +1,5 @@
 -- `calls::open_partition` meets its contract.
 use Rattle.calls.proofs.Laws.{words-meets}
-use borrow.Author.Rules.{rules}
 use Rattle.calls.proofs.open_partition.Goals as goal
 
 pub returns : goal.returns

@@ -1,7 +1,6 @@
 -- `calls::order` meets its contract.
 use mathlib.Core.Path.{refl, ap}
 use Rattle.answers.specs.Answers.{order_reply}
-use borrow.Author.Rules.{rules}
 use Rattle.calls.proofs.order.Goals as goal
 
 pub returns : goal.returns

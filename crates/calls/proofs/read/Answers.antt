@@ -1,6 +1,5 @@
 -- `calls::read` meets its contract.
 use Rattle.calls.proofs.Laws.{read_meets}
-use borrow.Author.Rules.{rules}
 use Rattle.calls.proofs.read.Goals as goal
 
 pub returns : goal.returns

@@ -3,7 +3,7 @@ use Prim.Native.Nat.{ℕ, ◌-◌, ◌+◌}
 use mathlib.Core.Path.{sym, ap, ◌∙◌}
 use mathlib.Core.List.{List}
 use Rattle.answers.specs.Answers.{Reply, reply}
-use Rattle.partition.specs.Marker.{marker as markerDecision}
+use Rattle.partition.specs.Marker.{marker as marker_decision}
 use Rattle.server.specs.Calls.{marker_call}
 use mir.Facts.{to_z-of_z}
 use borrow.Rule.Slice.PartMut.{put_mid}
@@ -11,7 +11,6 @@ use Rattle.partition.specs.declared.Partition.{Partition}
 use Rattle.session.specs.Memory.{memory, index_of, share}
 use Rattle.session.specs.Commands.{Outcome, called, acknowledges, Performs}
 use Rattle.session.proofs.CommandSteps.{partition-performs, goes_on_lem, stops}
-use borrow.Author.Rules.{rules}
 use Rattle.carry_command.proofs.deliver.Goals as goal
 use Rattle.carry_command.proofs.deliver.Goals.{After-with_partition-session}
 
@@ -25,7 +24,7 @@ performs : (c : After-with_partition-session) (payloads : List ℕ) → Performs
 performs c payloads =
     let a = c.args in
     partition-performs a.s a.log.now a.words.now payloads (index_of a.position) reply
-    (λ (q : Partition) (n : ℕ). markerDecision q n a.place a.pid a.epoch a.verdict a.coordinator)
+    (λ (q : Partition) (n : ℕ). marker_decision q n a.place a.pid a.epoch a.verdict a.coordinator)
     c.index_of-index.ensures.0 c.partition_at.ensures c.words_start-start.ensures.0
     (rw (to_z-of_z c.ranges.pid, to_z-of_z c.ranges.epoch, to_z-of_z c.ranges.coordinator) at c.marker-made.ensures)
     (c.done-response.ensures payloads) c.with_partition-session.ensures

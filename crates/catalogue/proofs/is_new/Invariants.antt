@@ -1,11 +1,8 @@
 -- `catalogue::is_new`: what its loops keep. The loop's invariant: no topic that was passed has the name.
-use mathlib.Core.Path.{◌≡◌, sym, ap, ◌∙◌}
+use mathlib.Core.Path.{◌≡◌}
 use mathlib.Core.Bool.{true}
 use Prim.Native.Nat.{◌≤◌, ◌-◌}
-use native.Mathlib.Omega.{arith}
-use borrow.Author.Rules.{rules}
 use Rattle.catalogue.specs.Catalogue.{is_new}
-use Rattle.catalogue.proofs.Names.{new_none, new-more, new-never}
 use Rattle.catalogue.proofs.is_new.Given as goal
 
 abbrev pub invariant-loop-u : goal.invariant-loop-u

@@ -1,13 +1,10 @@
 -- `catalogue::line_at` meets its contract.
 use mathlib.Core.Path.{◌≡◌, sym, ap, ◌∙◌}
 use mathlib.Core.Bool.{true≢false}
-use mathlib.Core.List.{List}
 use Prim.Native.Nat.{ℕ, ◌+◌, ◌-◌, ◌≤◌}
 use native.Mathlib.Omega.{arith}
 use lib.ListN.{drop, get_or, length-drop}
 use lib.Seq.{get_or-drop}
-use borrow.Author.Rules.{rules}
-use borrow.Author.Tests.{not-true, not-false}
 use Rattle.catalogue.specs.Catalogue.{between}
 use Rattle.catalogue.specs.declared.Line.TheVariants.{Topic}
 use Rattle.catalogue.proofs.Reading.{between-true, LineParts, no_line_lem, is-topic, line-fits, ahead}

@@ -1,7 +1,6 @@
 -- `catalogue::name_byte` meets its contract.
 use mathlib.Core.Path.{◌≡◌, sym, ◌∙◌}
 use mathlib.Core.Bool.{false}
-use borrow.Author.Rules.{rules}
 use borrow.Author.Tests.{eq-eqb, ne_eqb}
 use Rattle.catalogue.specs.Catalogue.{between, name_byte}
 use Rattle.catalogue.proofs.name_byte.Goals as goal

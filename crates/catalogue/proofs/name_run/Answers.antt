@@ -1,11 +1,7 @@
 -- `catalogue::name_run` meets its contract. The loop's invariant: what was passed are name bytes, so the count goes on from i.
-use mathlib.Core.Path.{◌≡◌, refl, sym, ◌∙◌}
-use Prim.Native.Nat.{◌+◌, ◌≤◌, ◌-◌}
+use mathlib.Core.Path.{refl, sym, ◌∙◌}
+use Prim.Native.Nat.{◌-◌}
 use native.Mathlib.Omega.{arith}
-use lib.ListN.{length, drop}
-use borrow.Author.Rules.{rules}
-use borrow.Author.Tests.{not-true, not-false}
-use Rattle.catalogue.specs.Catalogue.{name_run}
 use Rattle.catalogue.proofs.Reading.{run-here, run_on, run_end}
 use Rattle.catalogue.proofs.name_run.Goals as goal
 

@@ -1,12 +1,8 @@
 -- `catalogue::name_run`: what its loops keep. The loop's invariant: what was passed are name bytes, so the count goes on from i.
-use mathlib.Core.Path.{◌≡◌, refl, sym, ◌∙◌}
+use mathlib.Core.Path.{◌≡◌}
 use Prim.Native.Nat.{◌+◌, ◌≤◌, ◌-◌}
-use native.Mathlib.Omega.{arith}
 use lib.ListN.{length, drop}
-use borrow.Author.Rules.{rules}
-use borrow.Author.Tests.{not-true, not-false}
 use Rattle.catalogue.specs.Catalogue.{name_run}
-use Rattle.catalogue.proofs.Reading.{run-here, run_on, run_end}
 use Rattle.catalogue.proofs.name_run.Given as goal
 
 abbrev pub invariant-loop-i : goal.invariant-loop-i

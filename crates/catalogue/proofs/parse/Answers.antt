@@ -1,14 +1,11 @@
 -- `catalogue::parse` meets its contract. The loop's invariant: what the lines that are left give is what the text gives.
 use mathlib.Core.Path.{◌≡◌, sym, ap, ◌∙◌}
-use mathlib.Core.List.{List}
-use Prim.Native.Nat.{ℕ, ◌+◌, ◌-◌, ◌*◌, ◌^◌, ◌≤◌, ◌<◌}
+use Prim.Native.Nat.{◌+◌, ◌-◌, ◌≤◌}
 use native.Mathlib.Omega.{arith}
 use lib.ListN.{length, drop, length-take}
-use borrow.Author.Rules.{rules}
-use borrow.Author.Tests.{not-true, not-false}
 use Rattle.catalogue.specs.declared.Catalogue.{Catalogue}
 use Rattle.catalogue.specs.declared.Line.TheVariants.{Topic}
-use Rattle.catalogue.specs.Catalogue.{line_at, parse}
+use Rattle.catalogue.specs.Catalogue.{line_at}
 use Rattle.catalogue.proofs.Names.{all-grows}
 use Rattle.catalogue.proofs.Reading.{onward, parse-onward, onward-none, onward-done, onward-full, onward-bad, line-within, line-short, line-partitions, line-new, line-old}
 use Rattle.catalogue.proofs.parse.Goals as goal

@@ -1,6 +1,5 @@
 -- `catalogue::partitions_in` meets its contract: no position of 64 bits is of a topic past the last.
 use mathlib.Core.Path.{sym}
-use borrow.Author.Rules.{rules}
 use Rattle.catalogue.specs.Limits.{topics_max}
 use Rattle.catalogue.proofs.Positions.{partitions-past}
 use Rattle.catalogue.proofs.partitions_in.Goals as goal

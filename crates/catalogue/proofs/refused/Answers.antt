@@ -1,5 +1,4 @@
 -- `catalogue::refused` meets its contract.
-use borrow.Author.Rules.{rules}
 use Rattle.catalogue.proofs.refused.Goals as goal
 
 pub returns : goal.returns

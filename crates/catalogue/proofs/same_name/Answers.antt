@@ -1,11 +1,9 @@
 -- `catalogue::same_name` meets its contract. The loop's invariant: what was passed agrees, so the comparison goes on from i.
 use mathlib.Core.Path.{◌≡◌, refl, sym, ◌∙◌}
-use Prim.Native.Nat.{◌≤◌, ◌-◌}
+use Prim.Native.Nat.{◌-◌}
 use native.Mathlib.Omega.{arith}
-use lib.ListN.{length, drop}
+use lib.ListN.{length}
 use borrow.Author.Rules.{rules}
-use Rattle.numbers.specs.Bytes.{same}
-use Rattle.catalogue.specs.Catalogue.{name_field}
 use Rattle.catalogue.proofs.Names.{fields-differ, fields-agree, fields-end}
 use Rattle.catalogue.proofs.same_name.Goals as goal
 use Rattle.catalogue.proofs.same_name.Goals.{Start}

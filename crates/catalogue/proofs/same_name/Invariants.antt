@@ -1,12 +1,9 @@
 -- `catalogue::same_name`: what its loops keep. The loop's invariant: what was passed agrees, so the comparison goes on from i.
-use mathlib.Core.Path.{◌≡◌, refl, sym, ◌∙◌}
+use mathlib.Core.Path.{◌≡◌}
 use Prim.Native.Nat.{◌≤◌, ◌-◌}
-use native.Mathlib.Omega.{arith}
-use lib.ListN.{length, drop}
-use borrow.Author.Rules.{rules}
+use lib.ListN.{drop}
 use Rattle.numbers.specs.Bytes.{same}
 use Rattle.catalogue.specs.Catalogue.{name_field}
-use Rattle.catalogue.proofs.Names.{fields-differ, fields-agree, fields-end}
 use Rattle.catalogue.proofs.same_name.Given as goal
 
 abbrev pub invariant-loop-i : goal.invariant-loop-i

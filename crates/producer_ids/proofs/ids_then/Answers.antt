@@ -2,7 +2,6 @@
 use native.Mathlib.Omega.{arith}
 use borrow.Author.Tests.{lt-ltb, le-ltb}
 use Rattle.answers.specs.Limits.{places}
-use borrow.Author.Rules.{rules}
 use Rattle.producer_ids.proofs.ids_then.Goals as goal
 
 pub returns-then-place-lt-PLACES : goal.returns-then-place-lt-PLACES

@@ -1,7 +1,6 @@
 -- `producer_ids::init_answer` meets its contract.
 use mathlib.Core.Path.{sym, ◌∙◌}
 use borrow.Author.Tests.{eq-eqb, ne_eqb}
-use borrow.Author.Rules.{rules}
 use Rattle.producer_ids.proofs.init_answer.Goals as goal
 
 pub returns-then-refusal-ne0 : goal.returns-then-refusal-ne0

@@ -10,7 +10,6 @@ use Rattle.coordinator.proofs.Laws.{fits-begun}
 use Rattle.coordinator.proofs.Named.{clock-is, tested_at}
 use Rattle.producer_ids.specs.Parts.{init_at}
 use Rattle.producer_ids.proofs.InitSteps.{init-fences, init-appends}
-use borrow.Author.Rules.{rules}
 use Rattle.producer_ids.proofs.init_change.Goals as goal
 
 pub returns-then-refusal-ne0 : goal.returns-then-refusal-ne0

@@ -1,6 +1,5 @@
 -- `producer_ids::init_refusal` meets its contract.
 use Rattle.producer_ids.proofs.InitSteps.{init-named, init-tested}
-use borrow.Author.Rules.{rules}
 use Rattle.producer_ids.proofs.init_refusal.Goals as goal
 
 pub returns-then-first-ne0 : goal.returns-then-first-ne0

@@ -3,7 +3,6 @@ use lib.Dec.{ltb}
 use Rattle.answers.specs.Limits.{places}
 use Rattle.coordinator.proofs.Named.{clock-is}
 use Rattle.producer_ids.proofs.InitSteps.{init-row-is}
-use borrow.Author.Rules.{rules}
 use Rattle.producer_ids.proofs.init_row.Goals as goal
 
 pub returns : goal.returns

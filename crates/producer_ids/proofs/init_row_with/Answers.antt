@@ -7,7 +7,6 @@ use Rattle.numbers.specs.Signed.{to_nat}
 use Rattle.numbers.proofs.Signed.{passed}
 use Rattle.row.specs.Limits.{epoch_last}
 use Rattle.producer_ids.proofs.InitSteps.{init-row-new, init-row-next, epoch-below}
-use borrow.Author.Rules.{rules}
 use Rattle.producer_ids.proofs.init_row_with.Goals as goal
 use Rattle.producer_ids.proofs.init_row_with.Goals.{After-natural_i32-timeout, Else-needs_pid}
 

@@ -1,6 +1,5 @@
 -- `session::answering` meets its contract.
 use borrow.Author.Tests.{eq-eqb, ne_eqb}
-use borrow.Author.Rules.{rules}
 use Rattle.session.proofs.answering.Goals as goal
 
 pub returns-then-number-eq0 : goal.returns-then-number-eq0

@@ -5,7 +5,6 @@ use Rattle.answers.specs.declared.ReadAnswer.{ReadAnswer}
 use Rattle.session.specs.Commands.{payloads_of}
 use mathlib.Core.List.{List}
 use Prim.Native.Nat.{ℕ}
-use borrow.Author.Rules.{rules}
 use Rattle.session.proofs.copied.Goals as goal
 
 abbrev read : List ℕ → ReadAnswer → Reply

@@ -1,7 +1,6 @@
 -- `session::done` meets its contract.
 use mathlib.Core.Path.{sym, ap, ◌∙◌}
 use Rattle.answers.specs.Answers.{reply}
-use borrow.Author.Rules.{rules}
 use Rattle.session.proofs.done.Goals as goal
 
 pub returns-in-Done : goal.returns-in-Done

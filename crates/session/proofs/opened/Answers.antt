@@ -1,6 +1,5 @@
 -- `session::opened` meets its contract.
 use Rattle.session.proofs.CommandSteps.{opened-as}
-use borrow.Author.Rules.{rules}
 use Rattle.session.proofs.opened.Goals as goal
 
 pub returns : goal.returns

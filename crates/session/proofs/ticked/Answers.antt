@@ -1,7 +1,6 @@
 -- `session::ticked` meets its contract.
 use mathlib.Core.Path.{sym, ap, ◌∙◌}
 use Rattle.answers.specs.Answers.{tick_reply}
-use borrow.Author.Rules.{rules}
 use Rattle.session.proofs.ticked.Goals as goal
 
 pub returns-in-Aborted : goal.returns-in-Aborted

@@ -3,7 +3,6 @@ use lib.ListN.{length}
 use Rattle.coordinator.specs.Named.{FoundFor}
 use Rattle.coordinator.proofs.Named.{found-for}
 use Rattle.transactions.proofs.AddSteps.{add-admitted, add-performs}
-use borrow.Author.Rules.{rules}
 use Rattle.transactions.proofs.add.Goals as goal
 use Rattle.transactions.proofs.add.Goals.{After-find-held}
 

@@ -3,7 +3,6 @@ use Rattle.coordinator.proofs.Changes.{action-accepted, action-refused}
 use Rattle.coordinator.proofs.Named.{clock-is}
 use Rattle.transactions.specs.Parts.{add_at}
 use Rattle.transactions.proofs.AddSteps.{add-advances, add-fits, add-appends}
-use borrow.Author.Rules.{rules}
 use Rattle.transactions.proofs.add_change.Goals as goal
 
 pub returns-then-refusal-ne0 : goal.returns-then-refusal-ne0

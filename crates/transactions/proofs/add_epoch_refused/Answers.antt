@@ -4,7 +4,6 @@ use borrow.Author.Rules.{sfits_of}
 use Rattle.row.specs.Limits.{epoch_max}
 use Rattle.coordinator.proofs.Held.{compared-wide}
 use Rattle.transactions.proofs.AddSteps.{barred-is}
-use borrow.Author.Rules.{rules}
 use Rattle.transactions.proofs.add_epoch_refused.Goals as goal
 
 pub returns : goal.returns

@@ -3,7 +3,6 @@ use mathlib.Core.Path.{sym, ◌∙◌}
 use native.Mathlib.Omega.{arith}
 use Rattle.coordinator.proofs.Named.{clock-is}
 use Rattle.transactions.proofs.AddSteps.{add-full-not, add-full-is}
-use borrow.Author.Rules.{rules}
 use Rattle.transactions.proofs.add_full.Goals as goal
 
 pub returns-then-all_joined : goal.returns-then-all_joined

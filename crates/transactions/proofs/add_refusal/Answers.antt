@@ -7,7 +7,6 @@ use Rattle.row.specs.Limits.{epoch_max}
 use Rattle.coordinator.specs.Named.{not_held_at}
 use Rattle.transactions.specs.Parts.{add_full}
 use Rattle.transactions.proofs.AddSteps.{add-named, add-tested}
-use borrow.Author.Rules.{rules}
 use Rattle.transactions.proofs.add_refusal.Goals as goal
 
 pub returns-then-first-ne0 : goal.returns-then-first-ne0

@@ -1,7 +1,6 @@
 -- `transactions::add_row_lem` meets its contract.
 use mathlib.Core.Path.{sym, ◌∙◌}
 use Rattle.transactions.proofs.AddSteps.{add-row-widened, add-row-begun}
-use borrow.Author.Rules.{rules}
 use Rattle.transactions.proofs.add_row.Goals as goal
 
 pub returns-then-is_begin : goal.returns-then-is_begin

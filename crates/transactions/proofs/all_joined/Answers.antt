@@ -1,6 +1,5 @@
 -- `transactions::all_joined` meets its contract.
 use Rattle.coordinator.specs.Add.{all_joined}
-use borrow.Author.Rules.{rules}
 use Rattle.transactions.proofs.all_joined.Goals as goal
 
 pub returns : goal.returns

@@ -3,7 +3,6 @@ use lib.ListN.{length}
 use Rattle.coordinator.specs.Named.{FoundFor}
 use Rattle.coordinator.proofs.Named.{found-for}
 use Rattle.transactions.proofs.EndSteps.{end-admitted, end-performs}
-use borrow.Author.Rules.{rules}
 use Rattle.transactions.proofs.end.Goals as goal
 use Rattle.transactions.proofs.end.Goals.{After-find-held}
 

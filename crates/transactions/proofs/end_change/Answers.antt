@@ -1,5 +1,4 @@
 -- `transactions::end_change` meets its contract.
-use borrow.Author.Tests.{not-true, not-false}
 use Rattle.row.specs.Row.{is_begin}
 use Rattle.row.specs.declared.Row.{Row}
 use Rattle.coordinator.proofs.Changes.{action-accepted, action-refused}
@@ -7,7 +6,6 @@ use Rattle.coordinator.proofs.Laws.{fits-begun}
 use Rattle.coordinator.proofs.Named.{clock-is, tested_at}
 use Rattle.transactions.specs.Parts.{end_at}
 use Rattle.transactions.proofs.EndSteps.{end-advances, end-appends}
-use borrow.Author.Rules.{rules}
 use Rattle.transactions.proofs.end_change.Goals as goal
 
 pub returns-then-refusal-ne0 : goal.returns-then-refusal-ne0

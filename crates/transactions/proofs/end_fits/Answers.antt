@@ -2,7 +2,6 @@
 use mathlib.Core.Path.{sym, ap}
 use Rattle.record.specs.declared.Status.{Status}
 use Rattle.coordinator.specs.End.{end_fits}
-use borrow.Author.Rules.{rules}
 use Rattle.transactions.proofs.end_fits.Goals as goal
 
 pub returns-in-Empty : goal.returns-in-Empty

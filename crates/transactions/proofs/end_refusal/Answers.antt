@@ -4,7 +4,6 @@ use Rattle.numbers.specs.Signed.{eq_z}
 use Rattle.numbers.proofs.Signed.{passed_on}
 use Rattle.coordinator.specs.Named.{not_held_at}
 use Rattle.transactions.proofs.EndSteps.{end-named, end-tested}
-use borrow.Author.Rules.{rules}
 use Rattle.transactions.proofs.end_refusal.Goals as goal
 
 pub returns-then-first-ne0 : goal.returns-then-first-ne0
