@@ -5,13 +5,14 @@ usage: tools/respell.py [FOLDER]     once, in the tree that port.py has turned
 
 A name is one that a file of specs/ or proofs/ declares with a small first letter and that holds a capital. Each becomes the same words joined by _. Types,
 facts and modules keep their capitals; functions of src/, strings, inputs and outputs keep their names. Where a definition gets the name that a lemma has
-already, the lemma gets _lem behind it.
+already, the lemma gets _lem behind it. A name that an import gives by `as` is turned in its file in the same way.
 """
 import glob
 import os
 import re
 import sys
 
+ALIAS = re.compile(r"\bas ([a-z][a-z0-9_]*[A-Z]\w*)")
 DECLARED = re.compile(r"(?m)^\s*(?:abbrev |unfoldable )?(?:pub )?((?:[^\s:()\[\]{},.\"]+ )*[^\s:()\[\]{},.\"]+) :(?=\s)")
 WORD = re.compile(r"[^\W\d][\w'′-]*")
 
@@ -74,6 +75,24 @@ def main(root):
             with open(p, "w", encoding="utf-8") as f:
                 f.write(new)
     print(f"respell: {len(names)} names")
+    turn_aliases(root)
+
+
+def turn_aliases(root):
+    """Turns the names that a file gives to what it imports."""
+    turned = 0
+    for p in files(root):
+        with open(p, encoding="utf-8") as f:
+            text = f.read()
+        names = {n: snake(n) for n in ALIAS.findall(text)}
+        for n, s in names.items():
+            if re.search(rf"(?<![\w'.]){s}(?![\w'])", text):
+                raise SystemExit(f"respell: {p}: {n} would fall together with {s}")
+        if names:
+            with open(p, "w", encoding="utf-8") as f:
+                f.write(re.sub(r"(?<![\w'.])(" + "|".join(names) + r")(?![\w'])", lambda m: names[m.group(1)], text))
+            turned += len(names)
+    print(f"respell: {turned} names of imports")
 
 
 def pattern(names):
