@@ -107,7 +107,7 @@ fn letter(rt: &impl Print, c: Catalogue, log: &[u8], end: usize) -> io::Result<(
     }
 }
 
-// A letter for each value of the byte at i.
+// A letter for each value of the byte at i. Only for callers that know it to lie in the frame.
 fn letters(rt: &impl Print, c: Catalogue, frame: &mut [u8], end: usize, i: usize) -> io::Result<()>
     requires { i < length frame.old }
 {
