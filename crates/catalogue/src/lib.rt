@@ -142,7 +142,7 @@ fn refused() -> Parsed
     ensures { result ≡ refused }
 {
     Parsed {
-        refusal: answers::INVALID_CATALOGUE,
+        refusal: 5,
         catalogue: blank(),
     }
 }

@@ -10,7 +10,7 @@ ghost use Rattle.record.specs.Record.{name_fits};
 ghost use Rattle.row.specs.Row.{is_begin};
 ghost use Rattle.answers.specs.Limits.{places};
 ghost use Rattle.answers.specs.Refusals.{first_refusal};
-ghost use Rattle.answers.specs.declared.InitAnswer.TheVariants.{Given, Refused};
+ghost use Rattle.answers.specs.InitAnswer.{Given, Refused};
 ghost use Rattle.table.specs.Table.{row_at, lowest_free, id_count, reserved};
 ghost use Rattle.coordinator.specs.Coordinator.{log_end, admits, clock_at, new_pid, row_frame, Performed};
 ghost use Rattle.coordinator.specs.Change.{changed_by, unless_refused, ActionPerformed};

@@ -17,8 +17,8 @@ use Rattle.row.specs.Row.{is_begin, is_prepare}
 use Rattle.row.specs.Steps.{begun, widened}
 use Rattle.row.specs.declared.Row.{Row}
 use Rattle.answers.specs.Refusals.{first_refusal, or_refuse, Decision}
-use Rattle.answers.specs.declared.Answer.{Answer}
-use Rattle.answers.specs.declared.Answer.TheVariants.{Done, Refused}
+use Rattle.answers.specs.Answer.{Answer}
+use Rattle.answers.specs.Answer.{Done, Refused}
 use Rattle.answers.proofs.Laws.{after_none, after_next_lem, after-all}
 use Rattle.table.specs.Table.{row_at, id_count}
 use Rattle.table.specs.declared.Held.{Held}
