@@ -192,11 +192,11 @@ pub fn init(s: Coordinator, log: &mut [u8], name: &[u8], timeout: i32, time: i64
     ensures { Performed (init s (length log.old) name.now timeout time) s log.old result.answer result.state log.new }
 {
     let table = s.table;
-    let reserve = table::reserved(table);
-    let ids = table::id_count(table);
-    let free = table::lowest_free(table);
+    let reserve = table::reserved(&table);
+    let ids = table::id_count(&table);
+    let free = table::lowest_free(&table);
     let own = record::padded_name(name);
-    let held = table::find(table, own);
+    let held = table::find(&table, own);
     let new = init_row(s, own, held, timeout, time);
     let refusal = init_refusal(s, log.len(), reserve, ids, free, name, held, new, timeout);
     let change = init_change(s, log, held, free, refusal, new, time);
