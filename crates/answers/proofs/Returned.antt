@@ -1,8 +1,8 @@
 -- Laws of what the functions return.
 use Prim.Native.Nat.{ℕ}
-use mathlib.Core.Path.{◌≡◌, refl, sym}
+use mathlib.Core.Path.{◌≡◌, refl, sym, ap}
 use mathlib.Core.Bool.{Bool, true, false, cond}
-use Rattle.std.specs.Result.{result_and}
+use Rattle.std.specs.Result.{IsErr, IsErrAnd, result_and}
 use Rattle.std.specs.declared.result.Result.{Result}
 use Rattle.std.specs.declared.result.Result.TheVariants.{Ok, Err}
 use native.Mathlib.Omega.{arith}
@@ -50,3 +50,9 @@ unfolding or_refuse
 refused_next (Ok x) true refusal e b = rw (b, e) refl
 refused_next (Ok x) false refusal e b = rw (b, e) refl
 refused_next (Err refusal) applies next e b = rw (b, ne_eqb (number_of refusal) 0 (number-positive refusal)) refl
+
+-- ---- what `?` passes on is the error
+
+pub error_passed : {A E : Type 0} (r : Result A E) (e : E) → IsErr r × IsErrAnd r (λ x. x ≡ e) → r ≡ Err e
+error_passed (Ok x) e h = absurd h.1
+error_passed (Err x) e h = ap Err h.1
