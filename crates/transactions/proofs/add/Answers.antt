@@ -14,7 +14,7 @@ held-is c =
     found-for a.s.now a.name.now c.padded_name.ensures c.find-held.ensures
 
 pub check_add-requires : goal.check_add-requires
-check_add-requires c = held-is c
+check_add-requires c = held-is (goal.at.check_add-requires c).After-find-held
 
 pub returns-in_err-check_add : goal.returns-in_err-check_add
 returns-in_err-check_add c =

@@ -14,7 +14,7 @@ held-is c =
     found-for a.s.now a.name.now c.padded_name.ensures c.find-held.ensures
 
 pub check_end-requires : goal.check_end-requires
-check_end-requires c = held-is c
+check_end-requires c = held-is (goal.at.check_end-requires c).After-find-held
 
 pub returns-in_err-check_end : goal.returns-in_err-check_end
 returns-in_err-check_end c =
