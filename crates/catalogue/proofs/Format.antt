@@ -15,8 +15,7 @@ use Rattle.numbers.specs.Padded.{padded}
 use Rattle.numbers.proofs.Bytes.{same_false, differ}
 use Rattle.numbers.proofs.Padded.{padded-same}
 use Rattle.catalogue.specs.declared.Catalogue.{Catalogue}
-use Rattle.catalogue.specs.declared.Parsed.{Parsed}
-use Rattle.catalogue.specs.Catalogue.{between, name_byte, name_run, digit_at, is_line, name_field, partitions_in, is_new, with_topic, with_line, after_line, blank, refused, accepted, lines, parse}
+use Rattle.catalogue.specs.Catalogue.{Parsed, between, name_byte, name_run, digit_at, is_line, name_field, partitions_in, is_new, with_topic, with_line, after_line, blank, refused, accepted, lines, parse}
 use Rattle.catalogue.specs.Format.{TopicLine, no_line, line_text, text_of, GoodLine, Renders}
 use Rattle.catalogue.proofs.Names.{new-if, new_is}
 use Rattle.catalogue.proofs.Reading.{run_take, run-bytes, run-name, between-true, LineParts, line-parts, parts-line, line-fits, lines_none, lines-suc}

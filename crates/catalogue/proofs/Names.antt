@@ -1,29 +1,32 @@
 -- Laws of one topic more: two names compared, one compared with all before it, and the topic's positions.
-use mathlib.Core.Path.{◌≡◌, refl, sym, ◌∙◌}
+use mathlib.Core.Path.{◌≡◌, refl, sym, ap, ◌∙◌}
 use mathlib.Core.Bool.{Bool, true, false, not, ◌&&◌, and-false, true≢false}
-use mathlib.Core.List.{List}
+use mathlib.Core.List.{List, [], ◌∷◌}
 use Prim.Native.Nat.{ℕ, zero, suc, ◌+◌, ◌-◌, ◌*◌, ◌%◌, ◌^◌, ◌≤◌, ◌<◌}
 use native.Mathlib.Nat.{one-mul, lt_of_lt_of_le}
 use native.Mathlib.Numerals.{add-one}
 use native.Mathlib.Decide.{ℕ_discrete}
 use native.Mathlib.Omega.{arith}
 use lib.Dec.{eqb}
-use lib.ListN.{length, drop, get_or, length-drop, drop_of_length-le}
-use lib.Seq.{drop-cons, get_or-take, get_or-drop, length-take-le}
+use lib.ListN.{length, drop, get_or, length-drop}
+use lib.Seq.{get_or-take, get_or-drop, length-take-le}
 use lib.Pow.{pow_mono, ones_lt, shl_exact}
-use borrow.Author.Tests.{eq-eqb, ne_eqb}
+use lib.Pointwise.{pointwise}
 use Rattle.numbers.specs.Bytes.{same}
 use Rattle.catalogue.specs.Limits.{topic_name_max}
 use Rattle.catalogue.specs.declared.Catalogue.{Catalogue}
 use Rattle.catalogue.specs.Catalogue.{name_field, is_new}
 use Rattle.catalogue.proofs.Positions.{positions-below, positions-shifted}
 
--- ---- two names compared, a byte at a time
+-- ---- two names compared
 
-same_step : (a b : List ℕ) (k : ℕ) → k < length a → k < length b
-    → same (drop k a) (drop k b) ≡ (eqb (get_or a k 0) (get_or b k 0) && same (drop (k + 1) a) (drop (k + 1) b))
+-- what the library's comparison of slices answers
+pub slices-same : (a b : List ℕ) → pointwise eqb a b ≡ same a b
 unfolding same
-same_step a b k h l = rw (drop-cons a k 0 h, drop-cons b k 0 l, add-one k)
+slices-same [] [] = refl
+slices-same [] (y ∷ b) = refl
+slices-same (x ∷ a) [] = refl
+slices-same (x ∷ a) (y ∷ b) = ap (λ (e : Bool). eqb x y && e) (slices-same a b)
 
 pub field-byte : (c : Catalogue) (t i : ℕ) → i < topic_name_max → get_or (name_field c t) i 0 ≡ get_or c.names (topic_name_max * t + i) 0
 field-byte c t i h = get_or-take topic_name_max (drop (topic_name_max * t) c.names) i 0 h ∙ get_or-drop (topic_name_max * t) c.names i 0
@@ -31,26 +34,6 @@ field-byte c t i h = get_or-take topic_name_max (drop (topic_name_max * t) c.nam
 module _ (c : Catalogue) (sized : length c.names ≡ 128) where
   pub field-length : (t : ℕ) → t < 8 → length (name_field c t) ≡ 16
   field-length t h = length-take-le 16 (drop (16 * t) c.names) (rw length-drop (omega arith))
-
-  module _ (u t i : ℕ) (hu : u < 8) (ht : t < 8) where
-    step : i < 16
-        → same (drop i (name_field c u)) (drop i (name_field c t))
-        ≡ (eqb (get_or c.names (16 * u + i) 0) (get_or c.names (16 * t + i) 0) && same (drop (i + 1) (name_field c u)) (drop (i + 1) (name_field c t)))
-    step h =
-        same_step (name_field c u) (name_field c t) i (omega (arith, field-length u hu)) (omega (arith, field-length t ht))
-        ∙ rw (field-byte c u i h, field-byte c t i h)
-
-    pub fields-differ : i < 16 → (get_or c.names (16 * u + i) 0 ≡ get_or c.names (16 * t + i) 0 → ⊥)
-        → same (drop i (name_field c u)) (drop i (name_field c t)) ≡ false
-    fields-differ h n = step h ∙ rw (ne_eqb _ _ n)
-
-    pub fields-agree : i < 16 → get_or c.names (16 * u + i) 0 ≡ get_or c.names (16 * t + i) 0
-        → same (drop i (name_field c u)) (drop i (name_field c t)) ≡ same (drop (i + 1) (name_field c u)) (drop (i + 1) (name_field c t))
-    fields-agree h e = step h ∙ rw (eq-eqb _ _ e)
-
-    pub fields-end : 16 ≤ i → same (drop i (name_field c u)) (drop i (name_field c t)) ≡ true
-    unfolding same
-    fields-end h = rw (drop_of_length-le (name_field c u) {i = i} (omega (arith, field-length u hu)), drop_of_length-le (name_field c t) {i = i} (omega (arith, field-length t ht)))
 
 -- ---- one name compared with all before it
 

@@ -2,20 +2,21 @@
 use mathlib.Core.Path.{◌≡◌, refl, sym, ap, ◌∙◌}
 use mathlib.Core.Bool.{Bool, true, false, cond, ◌&&◌}
 use mathlib.Core.List.{List, [], ◌∷◌, ◌++◌}
+use Rattle.std.specs.Prelude.{Option, Some, None}
+use Rattle.std.proofs.lemmas.Slice.{between_to_end}
 use Prim.Native.Nat.{ℕ, zero, suc, ◌+◌, ◌-◌, ◌≤◌, ◌<◌}
-use native.Mathlib.Nat.{add-zero, add_assoc}
+use native.Mathlib.Nat.{add-zero}
 use native.Mathlib.Numerals.{add-one}
 use native.Mathlib.Decide.{dec_le}
 use native.Mathlib.Omega.{arith}
-use lib.ListN.{length, take, drop, get_or, length-drop, drop_of_length-le, get_or-eq_default}
+use lib.ListN.{length, take, drop, get_or, length-take, drop_of_length-le, get_or-eq_default}
 use lib.Dec.{eqb, leb}
-use lib.Seq.{drop-cons, drop-drop, get_or-drop}
+use lib.Seq.{drop-cons, get_or-drop}
 use borrow.Author.Tests.{leb-true, le-leb, eqb-true, eq-eqb}
 use Rattle.numbers.proofs.Tests.{and_left, and_right}
 use Rattle.catalogue.specs.declared.Catalogue.{Catalogue}
-use Rattle.catalogue.specs.declared.Parsed.{Parsed}
-use Rattle.catalogue.specs.declared.Line.TheVariants.{Topic, Bad}
-use Rattle.catalogue.specs.Catalogue.{between, name_byte, name_run, digit_at, is_line, line_at, is_new, with_topic, with_line, after_line, blank, refused, accepted, lines, parse}
+use Rattle.catalogue.specs.declared.Line.{Line}
+use Rattle.catalogue.specs.Catalogue.{Parsed, between, name_byte, name_run, digit_at, is_line, line_at, is_new, with_topic, with_line, after_line, blank, refused, accepted, lines, parse}
 
 -- ---- the name bytes that a list starts with
 
@@ -68,7 +69,21 @@ pub run_end : (s : List ℕ) (i : ℕ) → length s ≤ i → i + length (name_r
 unfolding name_run
 run_end s i h = rw (drop_of_length-le s h) (add-zero i)
 
+pub run-within : (s : List ℕ) → length (name_run s) ≤ length s
+run-within s = omega (arith, ap length (run_take s), length-take (length (name_run s)) s)
+
+-- a byte of what follows the first n bytes
+pub behind : (s : List ℕ) (n k : ℕ) → get_or (take (length s - n) (drop n s)) k 0 ≡ get_or s (n + k) 0
+behind s n k = rw (between_to_end s n (length s) (omega arith)) (get_or-drop n s k 0)
+
+pub first-behind : (s : List ℕ) (n : ℕ) → get_or (take (length s - n) (drop n s)) 0 0 ≡ get_or s n 0
+first-behind s n = behind s n 0 ∙ rw add-zero
+
 -- ---- the line that a list starts with
+
+-- a line with a name of so many bytes and so many partitions
+abbrev pub topic : ℕ → ℕ → Option Line
+topic n p = Some (record { name = n; partitions = p })
 
 pub between-true : (low high b : ℕ) → between low high b ≡ true → (low ≤ b) × (b ≤ high)
 between-true low high b e = (leb-true low b (and_left (leb low b) (leb b high) e), leb-true b high (and_right (leb low b) (leb b high) e))
@@ -104,15 +119,15 @@ module _ (s : List ℕ) (n : ℕ) where
   unfolding is_line
   parts-line p = rw (← p.run, le-leb 1 n p.named, le-leb n 16 p.short, eq-eqb (get_or s n 0) 9 p.tab, p.digit, eq-eqb (get_or s (n + 2) 0) 10 p.feed)
 
-  pub no_line_lem : n ≡ length (name_run s) → (LineParts s n → ⊥) → Bad ≡ line_at s
+  pub no_line_lem : n ≡ length (name_run s) → (LineParts s n → ⊥) → None ≡ line_at s
   unfolding line_at
   no_line_lem e f = go (is_line s) refl
     where
-      go : (t : Bool) → is_line s ≡ t → Bad ≡ cond t (Topic (length (name_run s)) (digit_at s - 48)) Bad
+      go : (t : Bool) → is_line s ≡ t → None ≡ cond t (topic (length (name_run s)) (digit_at s - 48)) None
       go true h = absurd (f (line-parts e h))
       go false h = refl
 
-  pub is-topic : LineParts s n → Topic n (get_or s (n + 1) 0 - 48) ≡ line_at s
+  pub is-topic : LineParts s n → topic n (get_or s (n + 1) 0 - 48) ≡ line_at s
   unfolding line_at
   is-topic p = rw (parts-line p, ← p.run)
 
@@ -125,20 +140,18 @@ module _ (s : List ℕ) (n : ℕ) where
       go (no h) = absurd (omega (arith, sym p.feed ∙ get_or-eq_default s 0 {n = n + 2} (omega arith)))
 
   -- what is known of a line that was read
-  pub topic-parts : (p : ℕ) → Topic n p ≡ line_at s → LineParts s n × (p ≡ get_or s (n + 1) 0 - 48)
+  pub topic-parts : (p : ℕ) → topic n p ≡ line_at s → LineParts s n × (p ≡ get_or s (n + 1) 0 - 48)
   unfolding line_at
   topic-parts p e = go (is_line s) refl e
     where
-      go : (t : Bool) → is_line s ≡ t → Topic n p ≡ cond t (Topic (length (name_run s)) (digit_at s - 48)) Bad → LineParts s n × (p ≡ get_or s (n + 1) 0 - 48)
+      go : (t : Bool) → is_line s ≡ t → topic n p ≡ cond t (topic (length (name_run s)) (digit_at s - 48)) None → LineParts s n × (p ≡ get_or s (n + 1) 0 - 48)
       go true h q =
-          let r : n ≡ length (name_run s) = cc in
-          let d : p ≡ digit_at s - 48 = cc in
+          let name_of : Option Line → ℕ = λ (o : Option Line). elim o [ None ↦ 0 | Some l ↦ l.name ] in
+          let count_of : Option Line → ℕ = λ (o : Option Line). elim o [ None ↦ 0 | Some l ↦ l.partitions ] in
+          let r : n ≡ length (name_run s) = ap name_of q in
+          let d : p ≡ digit_at s - 48 = ap count_of q in
           (line-parts r h, d ∙ rw r)
       go false h q = absurd (let z : ◌≡◌ {A = ℕ} 0 1 = cc in omega arith)
-
--- a byte of what a text has from a place on
-pub ahead : (text : List ℕ) (at n k : ℕ) → get_or text (at + n + k) 0 ≡ get_or (drop at text) (n + k) 0
-ahead text at n k = sym (get_or-drop at text (n + k) 0 ∙ rw add_assoc)
 
 -- ---- the lines that are left
 
@@ -154,9 +167,10 @@ parse-onward [] = refl
 parse-onward (b ∷ s) = refl
 
 -- the end of the text, before any line and behind one
-pub onward-none : (t : ℕ) (c : Catalogue) (text : List ℕ) (at : ℕ) → t ≡ 0 → length text ≤ at → onward t c (drop at text) ≡ refused
+pub onward-none : (t : ℕ) (c : Catalogue) (s : List ℕ) → t ≡ 0 → length s ≡ 0 → onward t c s ≡ refused
 unfolding onward
-onward-none t c text at e h = rw (e, drop_of_length-le text h)
+onward-none t c [] e h = rw e
+onward-none t c (b ∷ s) e h = absurd (omega arith)
 
 pub lines_none : (k t : ℕ) (c : Catalogue) → lines k t c [] ≡ accepted c
 unfolding lines
@@ -168,8 +182,9 @@ unfolding onward
 done zero c h = absurd (omega arith)
 done (suc t) c h = lines_none (7 - t) (suc t) c
 
-pub onward-done : (t : ℕ) (c : Catalogue) (text : List ℕ) (at : ℕ) → (t ≡ 0 → ⊥) → length text ≤ at → onward t c (drop at text) ≡ accepted c
-onward-done t c text at n h = rw (drop_of_length-le text h) (done t c (omega arith))
+pub onward-done : (t : ℕ) (c : Catalogue) (s : List ℕ) → (t ≡ 0 → ⊥) → length s ≡ 0 → onward t c s ≡ accepted c
+onward-done t c [] n h = done t c (omega arith)
+onward-done t c (b ∷ s) n h = absurd (omega arith)
 
 full : (c : Catalogue) (s : List ℕ) → 0 < length s → onward 8 c s ≡ refused
 unfolding onward lines
@@ -177,8 +192,8 @@ full c [] h = absurd (omega arith)
 full c (b ∷ s) h = refl
 
 -- a ninth line
-pub onward-full : (t : ℕ) (c : Catalogue) (text : List ℕ) (at : ℕ) → t ≡ 8 → at < length text → onward t c (drop at text) ≡ refused
-onward-full t c text at e h = rw e (full c (drop at text) (omega (arith, length-drop at text)))
+pub onward-full : (t : ℕ) (c : Catalogue) (s : List ℕ) → t ≡ 8 → 0 < length s → onward t c s ≡ refused
+onward-full t c s e h = rw e (full c s h)
 
 pub lines-suc : (k t : ℕ) (c : Catalogue) (s : List ℕ) → 0 < length s
     → lines (suc k) t c s ≡ cond (is_line s && is_new (with_line c t s) t t) (lines k (t + 1) (with_line c t s) (after_line s)) refused
@@ -204,56 +219,41 @@ onward-step t c s l h =
     onward-is t c s h ∙ rw (e, lines-suc (7 - t) t c s h, ← onward-suc t (with_line c t s) (after_line s))
 
 -- no line, where there is more text
-pub onward-bad : (t : ℕ) (c : Catalogue) (text : List ℕ) (at : ℕ) → t < 8 → at < length text → Bad ≡ line_at (drop at text) → onward t c (drop at text) ≡ refused
+pub onward-bad : (t : ℕ) (c : Catalogue) (s : List ℕ) → t < 8 → 0 < length s → None ≡ line_at s → onward t c s ≡ refused
 unfolding line_at
-onward-bad t c text at l h e = onward-step t c s l (omega (arith, length-drop at text)) ∙ go (is_line s) refl e
+onward-bad t c s l h e = onward-step t c s l h ∙ go (is_line s) refl e
   where
-    s : List ℕ
-    s = drop at text
-
-    go : (b : Bool) → is_line s ≡ b → Bad ≡ cond b (Topic (length (name_run s)) (digit_at s - 48)) Bad
+    go : (b : Bool) → is_line s ≡ b → None ≡ cond b (topic (length (name_run s)) (digit_at s - 48)) None
         → cond (b && is_new (with_line c t s) t t) (onward (t + 1) (with_line c t s) (after_line s)) refused ≡ refused
     go true q r = absurd (let z : ◌≡◌ {A = ℕ} 0 1 = cc in omega arith)
     go false q r = refl
 
--- a line that was read at a place of a text
-module _ (text : List ℕ) (at n p : ℕ) (h : at ≤ length text) (e : Topic n p ≡ line_at (drop at text)) where
-  parts : LineParts (drop at text) n
-  parts = (topic-parts (drop at text) n p e).0
+-- a line that was read
+module _ (s : List ℕ) (n p : ℕ) (e : topic n p ≡ line_at s) where
+  parts : LineParts s n
+  parts = (topic-parts s n p e).0
 
-  partitions : p ≡ get_or (drop at text) (n + 1) 0 - 48
-  partitions = (topic-parts (drop at text) n p e).1
+  partitions : p ≡ get_or s (n + 1) 0 - 48
+  partitions = (topic-parts s n p e).1
 
-  pub line-within : at + n + 3 ≤ length text
-  line-within = omega (arith, line-fits (drop at text) n parts, length-drop at text)
+  pub line-within : n + 3 ≤ length s
+  line-within = line-fits s n parts
 
   pub line-short : n ≤ 16
   line-short = parts.short
 
   pub line-partitions : (1 ≤ p) × (p ≤ 8)
-  line-partitions = omega (arith, partitions, between-true 49 56 (get_or (drop at text) (n + 1) 0) parts.digit)
+  line-partitions = omega (arith, partitions, between-true 49 56 (get_or s (n + 1) 0) parts.digit)
 
-  line-name : take (at + n - at) (drop at text) ≡ name_run (drop at text)
-  line-name =
-      let k : at + n - at ≡ length (name_run (drop at text)) = omega (arith, parts.run) in
-      rw k (run_take (drop at text))
+  module _ (t : ℕ) (c d : Catalogue) (few : t < 8) (with : d ≡ with_topic c t (take n s) p) where
+    line-with : d ≡ with_line c t s
+    line-with = with ∙ rw (partitions, parts.run, run_take s)
 
-  line_after : after_line (drop at text) ≡ drop (at + n + 3) text
-  line_after =
-      let k : at + (length (name_run (drop at text)) + 3) ≡ at + n + 3 = omega (arith, parts.run) in
-      drop-drop (length (name_run (drop at text)) + 3) at text ∙ ap (λ (i : ℕ). drop i text) k
+    stepped : onward t c s ≡ cond (is_new d t t) (onward (t + 1) d (drop (n + 3) s)) refused
+    stepped = onward-step t c s few (omega (arith, line-within)) ∙ rw (parts-line s n parts, ← line-with, ← parts.run)
 
-  module _ (t : ℕ) (c d : Catalogue) (few : t < 8) (with : d ≡ with_topic c t (take (at + n - at) (drop at text)) p) where
-    line-with : d ≡ with_line c t (drop at text)
-    line-with = with ∙ rw (line-name, partitions, parts.run)
-
-    stepped : onward t c (drop at text) ≡ cond (is_new d t t) (onward (t + 1) d (drop (at + n + 3) text)) refused
-    stepped =
-        onward-step t c (drop at text) few (omega (arith, line-within, length-drop at text))
-        ∙ rw (parts-line (drop at text) n parts, ← line-with, line_after)
-
-    pub line-new : is_new d t t ≡ true → onward t c (drop at text) ≡ onward (t + 1) d (drop (at + n + 3) text)
+    pub line-new : is_new d t t ≡ true → onward t c s ≡ onward (t + 1) d (drop (n + 3) s)
     line-new q = stepped ∙ rw q
 
-    pub line-old : is_new d t t ≡ false → onward t c (drop at text) ≡ refused
+    pub line-old : is_new d t t ≡ false → onward t c s ≡ refused
     line-old q = stepped ∙ rw q

@@ -1,13 +1,11 @@
 -- A catalogue, and the catalogue that a text gives.
-use Rattle.std.specs.Prelude.{ℕ, zero, suc, ◌+◌, ◌-◌, ◌*◌, ◌/◌, ◌%◌, ◌^◌, ◌<◌, ◌≡◌, Bool, true, cond, not, ◌&&◌, ◌||◌, List, [], ◌∷◌, eqb, leb, length, get_or, take, drop, replicate}
+use Rattle.std.specs.Prelude.{ℕ, zero, suc, ◌+◌, ◌-◌, ◌*◌, ◌/◌, ◌%◌, ◌^◌, ◌<◌, ◌≡◌, Bool, true, cond, not, ◌&&◌, ◌||◌, Option, Some, None, List, [], ◌∷◌, eqb, leb, length, get_or, take, drop, replicate}
 use Rattle.numbers.specs.Bytes.{overwrite, same}
 use Rattle.numbers.specs.Padded.{until_zero}
 use Rattle.answers.specs.Numbers.{invalid_catalogue}
 use Rattle.catalogue.specs.Limits.{topics_max, topic_name_max, partitions_max}
 use Rattle.catalogue.specs.declared.Catalogue.{Catalogue}
-use Rattle.catalogue.specs.declared.Parsed.{Parsed}
 use Rattle.catalogue.specs.declared.Line.{Line}
-use Rattle.catalogue.specs.declared.Line.TheVariants.{Topic, Bad}
 
 -- ---- what a catalogue holds
 
@@ -82,8 +80,8 @@ is_line s =
     && eqb (get_or s (length (name_run s) + 2) 0) line_feed
 
 -- the line that a list starts with, as its name's length and its partitions
-unfoldable pub line_at : List ℕ → Line
-line_at s = cond (is_line s) (Topic (length (name_run s)) (digit_at s - digit 0)) Bad
+unfoldable pub line_at : List ℕ → Option Line
+line_at s = cond (is_line s) (Some (record { name = length (name_run s); partitions = digit_at s - digit 0 })) None
 
 -- the catalogue with the line that the list starts with as topic t, and what follows the line
 abbrev pub with_line : Catalogue → ℕ → List ℕ → Catalogue
@@ -97,6 +95,11 @@ unfoldable pub is_new : Catalogue → ℕ → ℕ → Bool
 is_new c t zero = true
 is_new c t (suc u) = is_new c t u && not (same (name_field c u) (name_field c t))
 
+-- refusal 0 with the catalogue, or 5 with a blank one
+pub record Parsed : Type 0 where
+  pub refusal : ℕ
+  pub catalogue : Catalogue
+
 -- the answer to a text that gives a catalogue
 abbrev pub accepted : Catalogue → Parsed
 accepted c = record { refusal = 0; catalogue = c }
@@ -104,6 +107,11 @@ accepted c = record { refusal = 0; catalogue = c }
 -- refusal 5: "catalogue"
 abbrev pub refused : Parsed
 refused = record { refusal = invalid_catalogue; catalogue = blank }
+
+-- the answer that goes with the catalogue of a text, or with none
+abbrev pub parsed_of : Option Catalogue → Parsed
+parsed_of None = refused
+parsed_of (Some c) = accepted c
 
 -- the lines of a text, of which t were read and at most k more may come
 unfoldable pub lines : ℕ → ℕ → Catalogue → List ℕ → Parsed

@@ -1,10 +1,10 @@
 // The catalogue of topics: read from a lent text, held by value.
 #![tactic(auto)]
 
-ghost use Rattle.std.specs.Prelude.{◌≡◌, ◌*◌, ◌^◌, ◌≤◌, ◌<◌, length, drop};
+ghost use Rattle.std.specs.Prelude.{◌≡◌, ◌*◌, ◌^◌, ◌≤◌, ◌<◌, length};
 ghost use Rattle.numbers.specs.Bytes.{same};
 ghost use Rattle.catalogue.specs.Limits.{topics_max, topic_name_max, partitions_max};
-ghost use Rattle.catalogue.specs.Catalogue.{between, name_byte, name_run, name_field, partitions_in, is_new, line_at, with_topic, blank, accepted, refused, parse};
+ghost use Rattle.catalogue.specs.Catalogue.{name_byte, name_run, name_field, partitions_in, is_new, line_at, with_topic, blank, parsed_of, parse};
 
 // The limits of specs/Limits.antt, under the same names.
 pub const TOPICS_MAX: usize = 8;
@@ -26,95 +26,51 @@ pub struct Catalogue {
     pub all: u64,
 }
 
-// Refusal 0 with the catalogue, or 5 with a blank one.
+// A line of a text: how long its topic's name is, and how many partitions the topic has.
 #[derive(Clone, Copy)]
-pub struct Parsed {
-    pub refusal: u8,
-    pub catalogue: Catalogue,
-}
-
-// What a text has at a place: a line with a name of that length and so many partitions, or something else.
-#[derive(Clone, Copy)]
-pub enum Line {
-    Topic { name: usize, partitions: u64 },
-    Bad,
-}
-
-// Whether b lies from low to high.
-fn between(low: u8, high: u8, b: u8) -> bool
-    ensures { result ≡ between low high b }
-{
-    low <= b && b <= high
+pub struct Line {
+    pub name: usize,
+    pub partitions: u64,
 }
 
 // Letters, digits, '.', '_' and '-'.
+#[tactic(auto, unfolding(crate::specs::Catalogue::name_byte))]
 fn name_byte(b: u8) -> bool
     ensures { result ≡ name_byte b }
 {
-    if between(b'a', b'z', b) {
-        return true;
-    }
-    if between(b'A', b'Z', b) {
-        return true;
-    }
-    if between(b'0', b'9', b) {
-        return true;
-    }
-    if b == b'.' {
-        return true;
-    }
-    if b == b'_' {
-        return true;
-    }
-    b == b'-'
+    matches!(b, b'a'..=b'z' | b'A'..=b'Z' | b'0'..=b'9' | b'.' | b'_' | b'-')
 }
 
-// How many name bytes the text has from `at` on.
-fn name_run(text: &[u8], at: usize) -> usize
-    requires { at ≤ length text.now }
-    ensures { result ≡ length (name_run (drop at text.now)) }
+// How many name bytes a text starts with.
+fn name_run(text: &[u8]) -> usize
+    ensures { result ≡ length (name_run text.now) }
 {
-    let mut i = at;
-    while i < text.len() {
-        if !name_byte(text[i]) {
-            return i - at;
+    for (n, b) in text.iter().enumerate() {
+        if !name_byte(*b) {
+            return n;
         }
-        i += 1;
     }
-    i - at
+    text.len()
 }
 
-// The line that starts at a place of the text.
-fn line_at(text: &[u8], at: usize) -> Line
-    requires { at ≤ length text.now }
-    ensures { result ≡ line_at (drop at text.now) }
+// The line that a text starts with, if it starts with one.
+fn line_at(text: &[u8]) -> Option<Line>
+    ensures { result ≡ line_at text.now }
 {
-    let n = name_run(text, at);
-    if n < 1 {
-        return Line::Bad;
+    let name = name_run(text);
+    if name < 1 || TOPIC_NAME_MAX < name {
+        return None;
     }
-    if TOPIC_NAME_MAX < n {
-        return Line::Bad;
+    let [TAB, digit, LINE_FEED, ..] = &text[name..] else {
+        return None;
+    };
+    if *digit < b'1' || b'8' < *digit {
+        return None;
     }
-    let left = text.len() - at;
-    if left < n + 3 {
-        return Line::Bad;
-    }
-    let tab = at + n;
-    if text[tab] != TAB {
-        return Line::Bad;
-    }
-    let digit = text[tab + 1];
-    if !between(b'1', b'8', digit) {
-        return Line::Bad;
-    }
-    if text[tab + 2] != LINE_FEED {
-        return Line::Bad;
-    }
-    Line::Topic {
-        name: n,
-        partitions: (digit - b'0') as u64,
-    }
+    Some(Line {
+        name: name,
+        partitions: u64::from(*digit - b'0'),
+    })
 }
 
 // The catalogue with no topic.
@@ -124,26 +80,6 @@ pub fn blank() -> Catalogue
     Catalogue {
         names: [0u8; NAMES],
         all: 0,
-    }
-}
-
-// The answer to a text that gives a catalogue.
-fn accepted(catalogue: Catalogue) -> Parsed
-    ensures { result ≡ accepted catalogue }
-{
-    Parsed {
-        refusal: 0,
-        catalogue: catalogue,
-    }
-}
-
-// The answer to any other text.
-fn refused() -> Parsed
-    ensures { result ≡ refused }
-{
-    Parsed {
-        refusal: answers::INVALID_CATALOGUE,
-        catalogue: blank(),
     }
 }
 
@@ -162,61 +98,50 @@ fn with_topic(c: Catalogue, t: usize, name: &[u8], partitions: u64) -> Catalogue
 }
 
 // Whether topics u and t have the same name.
-fn same_name(c: Catalogue, u: usize, t: usize) -> bool
+fn same_name(c: &Catalogue, u: usize, t: usize) -> bool
     requires { (u < topics_max) × (t < topics_max) }
-    ensures { result ≡ same (name_field c u) (name_field c t) }
+    ensures { result ≡ same (name_field c.now u) (name_field c.now t) }
 {
-    let mut i: usize = 0;
-    while i < TOPIC_NAME_MAX {
-        if c.names[TOPIC_NAME_MAX * u + i] != c.names[TOPIC_NAME_MAX * t + i] {
-            return false;
-        }
-        i += 1;
-    }
-    true
+    let (first, second) = (TOPIC_NAME_MAX * u, TOPIC_NAME_MAX * t);
+    c.names[first..first + TOPIC_NAME_MAX] == c.names[second..second + TOPIC_NAME_MAX]
 }
 
 // Whether no topic before t has its name.
-fn is_new(c: Catalogue, t: usize) -> bool
+fn is_new(c: &Catalogue, t: usize) -> bool
     requires { t < topics_max }
-    ensures { result ≡ is_new c t t }
+    ensures { result ≡ is_new c.now t t }
 {
-    let mut u: usize = 0;
-    while u < t {
+    for u in 0..t {
         if same_name(c, u, t) {
             return false;
         }
-        u += 1;
     }
     true
 }
 
-// The catalogue of a text, or refusal 5. Any bytes are answered.
-pub fn parse(text: &[u8]) -> Parsed
-    ensures { result ≡ parse text.now }
+// The catalogue of a text, if it gives one. Any bytes are answered.
+pub fn parse(text: &[u8]) -> Option<Catalogue>
+    ensures { parsed_of result ≡ parse text.now }
 {
     let mut c = blank();
     let mut t: usize = 0;
-    let mut at: usize = 0;
-    while at < text.len() {
+    let mut rest = text;
+    while !rest.is_empty() {
         if t == TOPICS_MAX {
-            return refused();
+            return None;
         }
-        let Line::Topic { name, partitions } = line_at(text, at) else {
-            return refused();
-        };
-        let end = at + name;
-        c = with_topic(c, t, &text[at..end], partitions);
-        if !is_new(c, t) {
-            return refused();
+        let line = line_at(rest)?;
+        c = with_topic(c, t, &rest[..line.name], line.partitions);
+        if !is_new(&c, t) {
+            return None;
         }
-        at = end + 3;
+        rest = &rest[line.name + 3..];
         t += 1;
     }
     if t == 0 {
-        return refused();
+        return None;
     }
-    accepted(c)
+    Some(c)
 }
 
 // The partitions of topic t in a set of positions; a number past the topics has none.

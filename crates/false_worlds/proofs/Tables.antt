@@ -16,8 +16,7 @@ use Rattle.record.specs.Limits.{name_max}
 use Rattle.numbers.specs.Integers.{integer_of, number_from}
 use Rattle.record.specs.Record.{name_bytes, name_fits, valid_name, joined_fits, start_fits, fields_fit, well_formed}
 use Rattle.record.specs.Topics.{with_partition, partitions_below, partitions_of, partitions_at, name_stands, topic_at, past, walk}
-use Rattle.record.specs.Reading.{candidate, judged, read_frame_within}
-use Rattle.record.specs.declared.FrameAt.{FrameAt}
+use Rattle.record.specs.Reading.{FrameAt, candidate, judged, read_frame_within}
 use Rattle.row.specs.Row.{is_begin}
 use Rattle.row.specs.declared.Row.{Row}
 use Rattle.search.specs.Search.{first_where, sum_of, find}

@@ -16,9 +16,7 @@ use Rattle.catalogue.specs.Catalogue.{parse}
 use Rattle.catalogue.specs.declared.Catalogue.{Catalogue}
 use Rattle.numbers.specs.Padded.{padded}
 use Rattle.record.specs.Limits.{name_max}
-use Rattle.record.specs.Reading.{read_frame}
-use Rattle.record.specs.declared.Reading.{Reading}
-use Rattle.record.specs.declared.Reading.TheVariants.{Whole, Torn, Bad}
+use Rattle.record.specs.Reading.{Reading, Whole, Torn, Bad, read_frame}
 use Rattle.search.specs.Search.{Each}
 use Rattle.answers.specs.Limits.{places}
 use Rattle.answers.specs.declared.OrderAnswer.{OrderAnswer}

@@ -1,75 +1,60 @@
 -- `catalogue::line_at` meets its contract.
-use mathlib.Core.Path.{◌≡◌, sym, ap, ◌∙◌}
-use mathlib.Core.Bool.{true≢false}
-use Prim.Native.Nat.{ℕ, ◌+◌, ◌-◌, ◌≤◌}
+use mathlib.Core.Path.{sym, ap, ◌∙◌}
 use native.Mathlib.Omega.{arith}
-use lib.ListN.{drop, get_or, length-drop}
-use lib.Seq.{get_or-drop}
-use Rattle.catalogue.specs.Catalogue.{between}
-use Rattle.catalogue.specs.declared.Line.TheVariants.{Topic}
-use Rattle.catalogue.proofs.Reading.{between-true, LineParts, no_line_lem, is-topic, line-fits, ahead}
+use Prim.Native.Nat.{ℕ, ◌+◌, ◌-◌, ◌≤◌}
+use lib.ListN.{get_or}
+use borrow.Author.Tests.{le-leb}
+use Rattle.catalogue.proofs.Reading.{between-true, LineParts, topic, no_line_lem, is-topic, line-fits, run-within, behind, first-behind}
 use Rattle.catalogue.proofs.line_at.Goals as goal
-use Rattle.catalogue.proofs.line_at.Goals.{After-between, Else-text-tab-ne-LINE_FEED}
+use Rattle.catalogue.proofs.line_at.Goals.{Else-digit-gt56, then-name-lt1-via-then-name-lt1, then-name-lt1-via-else-name-lt1+then-name-gt-TOPIC_NAME_MAX, then-digit-lt49-via-then-digit-lt49, then-digit-lt49-via-else-digit-lt49+then-digit-gt56}
 
--- the digit's test, as the definition has it
-digit : (c : After-between) → c.between.result ≡ between 49 56 (get_or (drop c.args.at c.args.text.now) (c.name_run-n.result + 1) 0)
-digit c = c.between.ensures ∙ ap (between 49 56) (ahead c.args.text.now c.args.at c.name_run-n.result 1)
+pub returns-then-name-lt1 : goal.returns-then-name-lt1
+returns-then-name-lt1 c =
+    no_line_lem c.args.text.now c.name_run-name.result c.name_run-name.ensures
+    (λ p. elim c.then-name-lt1.branch [ then-name-lt1-via-then-name-lt1 w ↦ omega (arith, p.named) | then-name-lt1-via-else-name-lt1+then-name-gt-TOPIC_NAME_MAX w ↦ omega (arith, p.short) ])
 
--- every test has passed
-parts : (c : Else-text-tab-ne-LINE_FEED) → LineParts (drop c.args.at c.args.text.now) c.name_run-n.result
-parts c =
-    let digit-here : c.between.result ≡ between 49 56 (get_or (drop c.args.at c.args.text.now) (c.name_run-n.result + 1) 0) = c.between.ensures ∙ ap (between 49 56) (ahead c.args.text.now c.args.at c.name_run-n.result 1) in
-    let a = c.args in
-    record {
-      run = c.name_run-n.ensures;
-      named = omega arith;
-      short = omega arith;
-      tab = get_or-drop a.at a.text.now c.name_run-n.result 0 ∙ c.if-text-tab-ne-TAB.false;
-      digit = sym digit-here ∙ c.if-not-between.false;
-      feed = sym (ahead a.text.now a.at c.name_run-n.result 2) ∙ c.if-text-tab-ne-LINE_FEED.false;
-    }
+pub slice_bounds-t-8-count : goal.slice_bounds-t-8-count
+slice_bounds-t-8-count c = omega (arith, c.name_run-name.ensures, run-within c.args.text.now)
 
-byte-is : (c : Else-text-tab-ne-LINE_FEED) → (get_or c.args.text.now (c.args.at + c.name_run-n.result + 1) 0) ≡ get_or (drop c.args.at c.args.text.now) (c.name_run-n.result + 1) 0
-byte-is c = ahead c.args.text.now c.args.at c.name_run-n.result 1
+pub slice_bounds-t-9-start : goal.slice_bounds-t-9-start
+slice_bounds-t-9-start c = omega (arith, c.name_run-name.ensures, run-within c.args.text.now)
 
-range : (c : Else-text-tab-ne-LINE_FEED) → (49 ≤ (get_or c.args.text.now (c.args.at + c.name_run-n.result + 1) 0)) × ((get_or c.args.text.now (c.args.at + c.name_run-n.result + 1) 0) ≤ 56)
-range c =
-    rw (byte-is c) (between-true 49 56 (get_or (drop c.args.at c.args.text.now) (c.name_run-n.result + 1) 0) (parts c).digit)
+pub returns-in_default : goal.returns-in_default
+returns-in_default c =
+    no_line_lem c.args.text.now c.name_run-name.result c.name_run-name.ensures
+    (λ p. omega (arith, line-fits c.args.text.now c.name_run-name.result p, c.in_default.len_below))
 
-pub returns-then-n-lt1 : goal.returns-then-n-lt1
-returns-then-n-lt1 c =
-    no_line_lem (drop c.args.at c.args.text.now) c.name_run-n.result c.name_run-n.ensures (λ p. omega (arith, p.named))
+pub returns-in_default-2 : goal.returns-in_default-2
+returns-in_default-2 c =
+    no_line_lem c.args.text.now c.name_run-name.result c.name_run-name.ensures
+    (λ p. c.in_default.in_default-own.rest.1 (behind c.args.text.now c.name_run-name.result 2 ∙ p.feed))
 
-pub returns-then-n-gt-TOPIC_NAME_MAX : goal.returns-then-n-gt-TOPIC_NAME_MAX
-returns-then-n-gt-TOPIC_NAME_MAX c =
-    no_line_lem (drop c.args.at c.args.text.now) c.name_run-n.result c.name_run-n.ensures (λ p. omega (arith, p.short))
+pub returns-in_default-3 : goal.returns-in_default-3
+returns-in_default-3 c =
+    no_line_lem c.args.text.now c.name_run-name.result c.name_run-name.ensures
+    (λ p. c.in_default.in_default-own.rest.1 (first-behind c.args.text.now c.name_run-name.result ∙ p.tab))
 
-pub returns-then-left-n : goal.returns-then-left-n
-returns-then-left-n c =
-    no_line_lem (drop c.args.at c.args.text.now) c.name_run-n.result c.name_run-n.ensures
-    (λ p. omega (arith, line-fits (drop c.args.at c.args.text.now) c.name_run-n.result p, length-drop c.args.at c.args.text.now))
-
-pub returns-then-text-tab-ne-TAB : goal.returns-then-text-tab-ne-TAB
-returns-then-text-tab-ne-TAB c =
-    no_line_lem (drop c.args.at c.args.text.now) c.name_run-n.result c.name_run-n.ensures
-    (λ p. c.if-text-tab-ne-TAB.true (sym (get_or-drop c.args.at c.args.text.now c.name_run-n.result 0) ∙ p.tab))
-
-pub returns-then-not-between : goal.returns-then-not-between
-returns-then-not-between c =
-    no_line_lem (drop c.args.at c.args.text.now) c.name_run-n.result c.name_run-n.ensures
-    (λ p. true≢false (sym p.digit ∙ sym (digit (goal.at.returns-then-not-between c).After-between) ∙ c.if-not-between.true))
-
-pub returns-then-text-tab-ne-LINE_FEED : goal.returns-then-text-tab-ne-LINE_FEED
-returns-then-text-tab-ne-LINE_FEED c =
-    no_line_lem (drop c.args.at c.args.text.now) c.name_run-n.result c.name_run-n.ensures
-    (λ p. c.if-text-tab-ne-LINE_FEED.true (ahead c.args.text.now c.args.at c.name_run-n.result 2 ∙ p.feed))
-
-pub overflow_sub-result : goal.overflow_sub-result
-overflow_sub-result c = omega (arith, range c)
-
-pub overflow_cast-result : goal.overflow_cast-result
-overflow_cast-result c = omega (arith, range c)
+pub returns-then-digit-lt49 : goal.returns-then-digit-lt49
+returns-then-digit-lt49 c =
+    let s = c.args.text.now in
+    let n = c.name_run-name.result in
+    no_line_lem s n c.name_run-name.ensures
+    (λ p. let d = between-true 49 56 (get_or s (n + 1) 0) p.digit in
+    elim c.then-digit-lt49.branch [ then-digit-lt49-via-then-digit-lt49 w ↦ omega (arith, d, behind s n 1) | then-digit-lt49-via-else-digit-lt49+then-digit-gt56 w ↦ omega (arith, d, behind s n 1) ])
 
 pub returns : goal.returns
 returns c =
-    ap (λ (b : ℕ). Topic c.name_run-n.result (b - 48)) (byte-is c) ∙ is-topic (drop c.args.at c.args.text.now) c.name_run-n.result (parts c)
+    let s = c.args.text.now in
+    let n = c.name_run-name.result in
+    let a : 49 ≤ get_or s (n + 1) 0 = omega (arith, behind s n 1) in
+    let b : get_or s (n + 1) 0 ≤ 56 = omega (arith, behind s n 1) in
+    let parts : LineParts s n =
+    record {
+      run = c.name_run-name.ensures;
+      named = omega arith;
+      short = omega arith;
+      tab = sym (first-behind s n) ∙ c.in-9.in-9-own.keys1;
+      digit = rw (le-leb 49 (get_or s (n + 1) 0) a, le-leb (get_or s (n + 1) 0) 56 b);
+      feed = sym (behind s n 2) ∙ c.in-9.in-9-own'.keys1;
+    } in
+    ap (topic n) (c.from.ensures ∙ ap (λ (b : ℕ). b - 48) (behind s n 1)) ∙ is-topic s n parts

@@ -1,12 +1,9 @@
--- `catalogue::name_run`: what its loops keep. The loop's invariant: what was passed are name bytes, so the count goes on from i.
+-- `catalogue::name_run`: what its loop keeps: what was passed are name bytes, so the count goes on from n.
 use mathlib.Core.Path.{◌≡◌}
-use Prim.Native.Nat.{◌+◌, ◌≤◌, ◌-◌}
+use Prim.Native.Nat.{◌+◌}
 use lib.ListN.{length, drop}
 use Rattle.catalogue.specs.Catalogue.{name_run}
 use Rattle.catalogue.proofs.name_run.Given as goal
 
-abbrev pub invariant-loop-i : goal.invariant-loop-i
-invariant-loop-i l = (l.at ≤ l.i) × (l.i ≤ length l.text) × (l.i + length (name_run (drop l.i l.text)) ≡ l.at + length (name_run (drop l.at l.text)))
-
-abbrev pub decreases-loop-i : goal.decreases-loop-i
-decreases-loop-i l = length l.text - l.i
+abbrev pub invariant-loop-n : goal.invariant-loop-n
+invariant-loop-n l = l.n + length (name_run (drop l.n l.text)) ≡ length (name_run l.text)
