@@ -62,8 +62,7 @@ pub extern "C" fn bench_calls_encode(
     rounds: usize,
     out: &mut [u8],
 ) -> u64 {
-    let parsed = catalogue::parse(text);
-    let c = parsed.catalogue;
+    let c = catalogue::parse(text).unwrap_or(catalogue::blank());
     let own = record::padded_name(name);
     let mut sum: u64 = 0;
     let mut k: usize = 0;
@@ -75,14 +74,11 @@ pub extern "C" fn bench_calls_encode(
             timeout: 60000,
             status: Status::Begin,
             joined: set,
-            updated: numbers::signed_i64(k as u64),
+            updated: numbers::to_signed::<i64>(k as u64),
             start: 100,
         };
-        match encode::encode(c, r, out, 0) {
-            encode::Written::Next(end) => {
-                sum = std::num::wrapping_add_u64(sum, end as u64);
-            }
-            encode::Written::NoRoom => {}
+        if let Some(end) = encode::encode(c, r, out, 0) {
+            sum = std::num::wrapping_add_u64(sum, end as u64);
         }
         k += 1;
     }

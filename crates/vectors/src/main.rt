@@ -9,8 +9,7 @@ use std::io;
 
 // The catalogue of a text that is one.
 fn catalogue_of(text: &[u8]) -> Catalogue {
-    let parsed = catalogue::parse(text);
-    parsed.catalogue
+    catalogue::parse(text).unwrap_or(catalogue::blank())
 }
 
 // A name padded with zeros; one that is too long is left out.

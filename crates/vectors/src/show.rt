@@ -2,8 +2,7 @@
 ghost use Rattle.std.specs.Prelude.{◌<◌, length};
 
 use catalogue::Catalogue;
-use encode::Written;
-use record::{Reading, Record};
+use record::{Record, Unreadable};
 use std::io;
 
 fn space(rt: &impl Print) -> io::Result<()> {
@@ -40,11 +39,17 @@ fn hex(rt: &impl Print, s: &[u8], n: usize) -> io::Result<()> {
 
 // The refusal of a catalogue's text, and its positions.
 pub fn parsed(rt: &impl Print, text: &[u8]) -> io::Result<()> {
-    let p = catalogue::parse(text);
     print!(rt; "catalogue")?;
-    number(rt, p.refusal as u64)?;
-    let c = p.catalogue;
-    number(rt, c.all)?;
+    match catalogue::parse(text) {
+        Some(c) => {
+            number(rt, 0)?;
+            number(rt, c.all)?;
+        }
+        None => {
+            number(rt, u64::from(answers::INVALID_CATALOGUE))?;
+            number(rt, 0)?;
+        }
+    }
     line(rt)
 }
 
@@ -53,10 +58,10 @@ fn fields(rt: &impl Print, r: Record) -> io::Result<()> {
     let name = r.name;
     hex(rt, &name, record::NAME_MAX)?;
     signed(rt, r.pid)?;
-    signed(rt, numbers::wide_i16(r.epoch))?;
-    signed(rt, numbers::wide_i32(r.timeout))?;
+    signed(rt, i64::from(r.epoch))?;
+    signed(rt, i64::from(r.timeout))?;
     let status = r.status;
-    signed(rt, numbers::wide_i8(record::status_code(status)))?;
+    signed(rt, i64::from(record::status_code(status)))?;
     number(rt, r.joined)?;
     signed(rt, r.updated)?;
     signed(rt, r.start)
@@ -64,23 +69,21 @@ fn fields(rt: &impl Print, r: Record) -> io::Result<()> {
 
 // What stands at a place of a log, with the record if it is whole.
 fn reading(rt: &impl Print, c: Catalogue, log: &[u8], end: usize, at: usize) -> io::Result<()> {
-    let found = decode::frame_at(c, log, end, at);
-    let verdict = found.reading;
-    match verdict {
-        Reading::Whole => {
+    match decode::frame_at(c, log, end, at) {
+        Ok(whole) => {
             print!(rt; "whole")?;
-            number(rt, found.next as u64)?;
-            fields(rt, found.found)?;
+            number(rt, whole.next as u64)?;
+            fields(rt, whole.record)?;
         }
-        Reading::Torn => print!(rt; "torn")?,
-        Reading::Bad => print!(rt; "bad")?,
+        Err(Unreadable::Torn) => print!(rt; "torn")?,
+        Err(Unreadable::Bad) => print!(rt; "bad")?,
     }
     line(rt)
 }
 
 // The frame of a record, written into this buffer: the place after it, its bytes, and how it reads back.
 fn written(rt: &impl Print, c: Catalogue, r: Record, out: &mut [u8]) -> io::Result<()> {
-    let Written::Next(next) = encode::encode(c, r, out, 0) else {
+    let Some(next) = encode::encode(c, r, out, 0) else {
         return print!(rt; "no room\n");
     };
     print!(rt; "frame")?;
@@ -98,12 +101,10 @@ pub fn frame(rt: &impl Print, c: Catalogue, r: Record) -> io::Result<()> {
 
 // One letter for what stands at the front of a log: w for whole, t for torn, b for bad.
 fn letter(rt: &impl Print, c: Catalogue, log: &[u8], end: usize) -> io::Result<()> {
-    let found = decode::frame_at(c, log, end, 0);
-    let verdict = found.reading;
-    match verdict {
-        Reading::Whole => print!(rt; "w"),
-        Reading::Torn => print!(rt; "t"),
-        Reading::Bad => print!(rt; "b"),
+    match decode::frame_at(c, log, end, 0) {
+        Ok(_) => print!(rt; "w"),
+        Err(Unreadable::Torn) => print!(rt; "t"),
+        Err(Unreadable::Bad) => print!(rt; "b"),
     }
 }
 
@@ -148,7 +149,7 @@ fn change_all(rt: &impl Print, c: Catalogue, frame: &mut [u8], next: usize) -> i
 
 // A record's frame, cut and changed in every way.
 fn damage(rt: &impl Print, c: Catalogue, r: Record, out: &mut [u8]) -> io::Result<()> {
-    let Written::Next(next) = encode::encode(c, r, out, 0) else {
+    let Some(next) = encode::encode(c, r, out, 0) else {
         return Ok(());
     };
     cut(rt, c, out, next)?;
