@@ -53,7 +53,7 @@ pub fn parse(line: &[u8]) -> Request
     if fields.count != 5 {
         return Request::Unknown;
     }
-    if fields::field_in(line, fields, 0) != b"race" {
+    if fields::field_in(line, fields, 0) != b"race".as_slice() {
         return Request::Unknown;
     }
     board_of(line, fields)
