@@ -194,7 +194,7 @@ fn is_kind(s: &[u8], kind: u8) -> bool {
 
 // Whether a line is this word and one field of each of these kinds.
 fn is_line(line: &[u8], word: &[u8], kinds: &[u8]) -> bool {
-    if !numbers::same(field(line, 0), word) {
+    if field(line, 0) != word {
         return false;
     }
     let mut k: usize = 0;
