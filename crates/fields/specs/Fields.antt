@@ -1,5 +1,5 @@
 -- The fields of a line.
-use Rattle.std.specs.Prelude.{ℕ, ◌+◌, min, ◌≡◌, Bool, cond, ◌||◌, List, [], ◌∷◌, eqb, length, get_or, take, drop}
+use Rattle.std.specs.Prelude.{ℕ, ◌+◌, min, ◌≡◌, Bool, cond, ◌||◌, List, [], ◌∷◌, eqb, ltb, length, get_or, take, drop}
 use Prim.Native.Char.{code}
 use Rattle.fields.specs.Limits.{fields_max}
 use Rattle.fields.specs.declared.Part.{Part}
@@ -46,7 +46,7 @@ SplitInto line parts n = (n ≡ min (count line) (fields_max + 1)) × (take n pa
 
 -- where field k stands among the fields that are kept, and its bytes: an empty part past the last, and past the seventh
 abbrev pub part_in : List ℕ → ℕ → Part
-part_in line k = get_or (take fields_max (fields_of line)) k blank
+part_in line k = cond (ltb k fields_max) (part_at line k) blank
 
 abbrev pub field_in : List ℕ → ℕ → List ℕ
 field_in line k = bytes_of line (part_in line k)
