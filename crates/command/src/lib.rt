@@ -2,6 +2,7 @@
 #![tactic(auto)]
 
 ghost use Rattle.std.specs.Prelude.{◌≡◌, unwrap_or};
+ghost use Rattle.numbers.specs.Bytes.{same};
 ghost use Rattle.fields.specs.Numbers.{natural};
 ghost use Rattle.command.specs.Words.{word_at, row_of};
 ghost use Rattle.command.specs.declared.Command.TheVariants.{Unknown};
@@ -9,9 +10,7 @@ ghost use Rattle.command.specs.Command.{one_number, ReadsChange, init_of, add_of
 
 use fields::{Fields, Part};
 
-// The limits of specs/Limits.antt, under the same names.
-pub const WORD_MAX: usize = 5;
-
+// The limit of specs/Limits.antt, under the same name.
 pub const COMMANDS: usize = 10;
 
 // The words of the commands, and `?` for a line that is no command.
@@ -19,7 +18,8 @@ const WORDS: [&[u8]; COMMANDS + 1] = [
     b"init", b"add", b"end", b"tick", b"flush", b"put", b"carry", b"read", b"cut", b"left", b"?",
 ];
 
-// The commands of document 01's listing, with `tick` and `left`; and a line that is none of them.
+// The commands of document 01's listing, with `tick` and `left`; and a line that is none of them, which is answered as they are, under a word of its own.
+// A name is a part of the line and not its bytes, since `command_lines` prints where it stands.
 #[derive(Clone, Copy)]
 pub enum Command {
     Init {
@@ -86,12 +86,21 @@ pub fn word_at(row: usize) -> &'static [u8]
     WORDS[row.min(COMMANDS)]
 }
 
+// Whether a run of bytes is a word.
+fn is_word(run: &[u8], word: &[u8]) -> bool
+    ensures { result ≡ same run.now word.now }
+{
+    run == word
+}
+
 // The row of the command with this word; the last row if there is none.
 fn row_of(run: &[u8]) -> usize
     ensures { result ≡ row_of run.now }
 {
     let mut words = WORDS[..COMMANDS].iter();
-    words.position(|word| *word == run).unwrap_or(COMMANDS)
+    words
+        .position(|word| is_word(run, word))
+        .unwrap_or(COMMANDS)
 }
 
 // ---- Commands. A line with another number of fields, or with a field that is no number of its type, is none.

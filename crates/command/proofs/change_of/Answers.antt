@@ -1,8 +1,7 @@
 -- `command::change_of` meets its contract.
 use mathlib.Core.Path.{sym, ◌∙◌}
 use borrow.Author.Rules.{rules}
-use mir.Syntax.{w16, w32, w64}
-use Rattle.command.specs.Command.{change_of}
+use mir.Syntax.{w16, w64}
 use Rattle.command.proofs.Values.{signed-is, unsigned-is}
 use Rattle.command.proofs.change_of.Goals as goal
 

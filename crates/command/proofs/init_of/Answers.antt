@@ -1,9 +1,9 @@
 -- `command::init_of` meets its contract.
 use mathlib.Core.Path.{sym, ◌∙◌}
 use borrow.Author.Rules.{rules}
-use mir.Syntax.{w16, w32, w64}
+use mir.Syntax.{w32, w64}
 use Rattle.command.specs.Command.{init_of}
-use Rattle.command.proofs.Values.{signed-is, unsigned-is}
+use Rattle.command.proofs.Values.{signed-is}
 use Rattle.command.proofs.init_of.Goals as goal
 
 pub returns : goal.returns
