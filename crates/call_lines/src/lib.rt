@@ -1,9 +1,7 @@
 // The lines of a call script: the fields of a line, the numbers that they write, and which line it is by its word and the kinds of its fields.
 #![tactic(auto)]
 
-ghost use Rattle.std.specs.Prelude.{◌≤◌, ◌<◌, length};
-
-use fields::Number;
+ghost use Rattle.std.specs.Prelude.{◌≤◌, ◌<◌, ◌≤ℤ◌, length};
 
 // Which line it is.
 #[derive(Clone, Copy)]
@@ -88,23 +86,20 @@ fn spaces(line: &[u8]) -> usize {
 // ---- Numbers.
 
 // What a run of bytes writes, if 64 bits and a sign hold it.
-fn number(s: &[u8]) -> Number {
+fn number(s: &[u8]) -> Option<i128> {
     fields::read_number(s, u64::MAX, u64::MAX)
 }
 
 // Whether a run writes a number from −below to most.
 fn within(s: &[u8], below: u64, most: u64) -> bool {
-    match fields::read_number(s, below, most) {
-        Number::Bad => false,
-        _ => true,
-    }
+    fields::read_number(s, below, most).is_some()
 }
 
 // The number of field k, 0 if it writes none; one past its type becomes the nearest.
 pub fn unsigned(line: &[u8], k: usize) -> u64 {
     match number(field(line, k)) {
-        Number::Natural(n) => n,
-        _ => 0,
+        Some(n) => u64::try_from(n).unwrap_or(0),
+        None => 0,
     }
 }
 
@@ -112,28 +107,25 @@ pub fn place(line: &[u8], k: usize) -> usize {
     unsigned(line, k) as usize
 }
 
+// The number of field k between two limits, 0 if it writes none.
+fn between(line: &[u8], k: usize, low: i64, high: i64) -> i64
+    requires { low ≤ℤ high }
+    ensures { (low ≤ℤ result) × (result ≤ℤ high) }
+{
+    let n = number(field(line, k)).unwrap_or(0);
+    n.clamp(i128::from(low), i128::from(high)) as i64
+}
+
 pub fn signed_16(line: &[u8], k: usize) -> i16 {
-    match number(field(line, k)) {
-        Number::Natural(n) => numbers::to_signed::<i16>(n),
-        Number::Negative(n) => !numbers::to_signed::<i16>(n),
-        Number::Bad => 0,
-    }
+    between(line, k, -0x8000, 0x7fff) as i16
 }
 
 pub fn signed_32(line: &[u8], k: usize) -> i32 {
-    match number(field(line, k)) {
-        Number::Natural(n) => numbers::to_signed::<i32>(n),
-        Number::Negative(n) => !numbers::to_signed::<i32>(n),
-        Number::Bad => 0,
-    }
+    between(line, k, -0x8000_0000, 0x7fff_ffff) as i32
 }
 
 pub fn signed_64(line: &[u8], k: usize) -> i64 {
-    match number(field(line, k)) {
-        Number::Natural(n) => numbers::to_signed::<i64>(n),
-        Number::Negative(n) => !numbers::to_signed::<i64>(n),
-        Number::Bad => 0,
-    }
+    between(line, k, i64::MIN, i64::MAX)
 }
 
 // ---- Bytes in hexadecimal, with small letters.

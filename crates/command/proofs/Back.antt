@@ -3,7 +3,7 @@ use Prim.Native.Nat.{ℕ, ◌<◌}
 use mathlib.Core.Path.{◌≡◌, refl, sym, ap, ◌∙◌}
 use mathlib.Core.Bool.{Bool, true, false, cond}
 use mathlib.Core.List.{List}
-use mathlib.Core.Option.{Option, none, some}
+use Rattle.std.specs.Prelude.{Option, None, Some}
 use native.Mathlib.Nat.{zero-add}
 use borrow.Author.Tests.{ltb-true, ltb-false}
 use lib.Dec.{eqb, ltb}
@@ -28,8 +28,8 @@ abbrev OfRow : ℕ → Command → Type 0
 OfRow k c = (c ≡ Unknown → ⊥) → row_of_command c ≡ k
 
 given-row : (k : ℕ) (o : Option ℤ) (f : ℤ → Command) → ((z : ℤ) → OfRow k (f z)) → OfRow k (given o f)
-given-row k none f h d = absurd (d refl)
-given-row k (some z) f h d = h z d
+given-row k None f h d = absurd (d refl)
+given-row k (Some z) f h d = h z d
 
 fields-row : (k n : ℕ) (line : List ℕ) (c : Command) → OfRow k c → OfRow k (of_fields n line c)
 fields-row k n line c h = go (eqb (count line) n)

@@ -1,4 +1,4 @@
 -- Laws of the crate command: the public modules are for callers, the others for the functions' own proofs.
 pub mod Rows
-mod Commands
 pub mod Back
+mod Values

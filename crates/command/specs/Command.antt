@@ -1,20 +1,18 @@
 -- The command that a line is.
-use Rattle.std.specs.Prelude.{ℕ, ◌≡◌, cond, List, [], ◌∷◌, eqb, ℤ, get_or}
-use Rattle.std.proofs.Math.Option.{Option, none, some}
+use Rattle.std.specs.Prelude.{ℕ, ◌≡◌, cond, List, [], ◌∷◌, eqb, ℤ, get_or, Option, Some, None}
 use Rattle.std.specs.Int.{w16, w32, w64}
 use Rattle.numbers.specs.Signed.{to_nat}
 use Rattle.fields.specs.Fields.{count, part_at, field}
 use Rattle.fields.specs.Numbers.{signed, unsigned}
 use Rattle.command.specs.Words.{row_of}
 use Rattle.command.specs.declared.Change.{Change}
-use Rattle.command.specs.declared.Change.TheVariants.{Is, Bad}
 use Rattle.command.specs.declared.Command.{Command}
 use Rattle.command.specs.declared.Command.TheVariants.{Init, Add, End, Tick, Flush, Put, Carry, Read, Cut, Left, Unknown}
 
 -- what a number makes a command of; a field that writes none makes the line no command
 abbrev pub given : Option ℤ → (ℤ → Command) → Command
-given none f = Unknown
-given (some z) f = f z
+given None f = Unknown
+given (Some z) f = f z
 
 -- field k as a number of a type
 abbrev pub int16 : List ℕ → ℕ → (ℤ → Command) → Command
@@ -95,14 +93,14 @@ command_of line = command_at (row_of (field line 0)) line
 -- ---- the same as the code has it: a number that stands alone behind the word, and what the numbers of a change make
 
 abbrev pub one_number : List ℕ → Option ℤ
-one_number line = cond (eqb (count line) 2) (unsigned (field line 1)) none
+one_number line = cond (eqb (count line) 2) (unsigned (field line 1)) None
 
-abbrev pub change_made : (ℤ → ℤ → ℕ → ℤ → Command) → Change → Command
-change_made f (Is pid epoch value time) = f pid epoch value time
-change_made f Bad = Unknown
+abbrev pub change_made : (ℤ → ℤ → ℕ → ℤ → Command) → Option Change → Command
+change_made f (Some c) = f c.pid c.epoch c.value c.time
+change_made f None = Unknown
 
 -- the numbers of a change make of every command what the line makes of it
-abbrev pub ReadsChange : List ℕ → Change → Type 0
+abbrev pub ReadsChange : List ℕ → Option Change → Type 0
 ReadsChange line r = (f : ℤ → ℤ → ℕ → ℤ → Command) → change_made f r ≡ change_of line f
 
 -- the row of a command's word

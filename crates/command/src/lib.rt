@@ -1,44 +1,25 @@
 // A command line as a command: its word and its fields.
 #![tactic(auto)]
 
-ghost use Rattle.std.specs.Prelude.{◌≡◌, min, length, take};
+ghost use Rattle.std.specs.Prelude.{◌≡◌, unwrap_or};
 ghost use Rattle.numbers.specs.Bytes.{same};
-ghost use Rattle.fields.specs.Fields.{SplitInto};
-ghost use Rattle.fields.specs.Numbers.{value_unsigned};
-ghost use Rattle.command.specs.Limits.{commands};
+ghost use Rattle.fields.specs.Numbers.{natural};
 ghost use Rattle.command.specs.Words.{word_at, row_of};
-ghost use Rattle.command.specs.Command.{one_number, ReadsChange, init_of, add_of, end_of, tick_of, flush_of, put_of, carry_of, read_of, cut_of, left_of, command_at, command_of, row_of_command};
+ghost use Rattle.command.specs.declared.Command.TheVariants.{Unknown};
+ghost use Rattle.command.specs.Command.{one_number, ReadsChange, init_of, add_of, end_of, tick_of, flush_of, put_of, command_at, command_of, row_of_command};
 
-use fields::{Fields, Part, Signed16, Signed32, Signed64, Unsigned64};
+use fields::{Fields, Part};
 
-// The limits of specs/Limits.antt, under the same names.
-pub const WORD_MAX: usize = 5;
-
+// The limit of specs/Limits.antt, under the same name.
 pub const COMMANDS: usize = 10;
 
-// The words of the commands, padded with zeros, and `?` for a line that is no command.
-const WORDS: [[u8; WORD_MAX]; COMMANDS + 1] = [
-    [b'i', b'n', b'i', b't', 0],
-    [b'a', b'd', b'd', 0, 0],
-    [b'e', b'n', b'd', 0, 0],
-    [b't', b'i', b'c', b'k', 0],
-    [b'f', b'l', b'u', b's', b'h'],
-    [b'p', b'u', b't', 0, 0],
-    [b'c', b'a', b'r', b'r', b'y'],
-    [b'r', b'e', b'a', b'd', 0],
-    [b'c', b'u', b't', 0, 0],
-    [b'l', b'e', b'f', b't', 0],
-    [b'?', 0, 0, 0, 0],
+// The words of the commands, and `?` for a line that is no command.
+const WORDS: [&[u8]; COMMANDS + 1] = [
+    b"init", b"add", b"end", b"tick", b"flush", b"put", b"carry", b"read", b"cut", b"left", b"?",
 ];
 
-// A word: the first bytes of an array.
-#[derive(Clone, Copy)]
-pub struct Word {
-    pub letters: [u8; WORD_MAX],
-    pub len: usize,
-}
-
-// The commands of document 01's listing, with `tick` and `left`; and a line that is none of them.
+// The commands of document 01's listing, with `tick` and `left`; and a line that is none of them, which is answered as they are, under a word of its own.
+// A name is a part of the line and not its bytes, since `command_lines` prints where it stands.
 #[derive(Clone, Copy)]
 pub enum Command {
     Init {
@@ -87,294 +68,185 @@ pub enum Command {
     Unknown,
 }
 
-// The numbers of an Add or End behind its name, or that one of them is missing or bad.
+// The numbers of an Add or End behind its name.
 #[derive(Clone, Copy)]
-enum Change {
-    Is {
-        pid: i64,
-        epoch: i16,
-        value: u64,
-        time: i64,
-    },
-    Bad,
+struct Change {
+    pid: i64,
+    epoch: i16,
+    value: u64,
+    time: i64,
 }
 
 // ---- Words.
 
-// The last row of the table stands for every row past it.
-fn row_within(row: usize) -> usize
-    ensures { result ≡ min row commands }
+// The word in a row of the table. The last row stands for every row past it.
+pub fn word_at(row: usize) -> &'static [u8]
+    ensures { result.now ≡ word_at row }
 {
-    if COMMANDS < row { COMMANDS } else { row }
+    WORDS[row.min(COMMANDS)]
 }
 
-// The word in a row of the table.
-pub fn word_at(row: usize) -> Word
-    ensures { (take result.len result.letters ≡ word_at row) × (result.len ≡ length (word_at row)) }
+// Whether a run of bytes is a word.
+fn is_word(run: &[u8], word: &[u8]) -> bool
+    ensures { result ≡ same run.now word.now }
 {
-    let at = row_within(row);
-    let letters = WORDS[at];
-    let len = numbers::until_zero(&letters);
-    Word { letters, len }
-}
-
-// Whether a run of bytes is the word in a row.
-fn is_word(run: &[u8], row: usize) -> bool
-    ensures { result ≡ same run.now (word_at row) }
-{
-    let w = word_at(row);
-    let letters = w.letters;
-    let len = w.len;
-    run == &letters[..len]
+    run == word
 }
 
 // The row of the command with this word; the last row if there is none.
 fn row_of(run: &[u8]) -> usize
     ensures { result ≡ row_of run.now }
 {
-    let mut row: usize = 0;
-    while row < COMMANDS {
-        if is_word(run, row) {
-            return row;
-        }
-        row += 1;
-    }
-    row
+    let mut words = WORDS[..COMMANDS].iter();
+    words
+        .position(|word| is_word(run, word))
+        .unwrap_or(COMMANDS)
 }
 
-// ---- Commands.
+// ---- Commands. A line with another number of fields, or with a field that is no number of its type, is none.
 
 // The one number of a line that has no other field behind its word.
-fn one_number(line: &[u8], fields: Fields) -> Unsigned64
-    requires { SplitInto line.now fields }
-    ensures { value_unsigned result ≡ one_number line.now }
+fn one_number(fields: &Fields<'_>) -> Option<u64>
+    ensures { natural result ≡ one_number fields.now.line.now }
 {
-    if fields.count != 2 {
-        return Unsigned64::Bad;
+    if !fields.has_exactly(2) {
+        return None;
     }
-    fields::unsigned_64(line, fields, 1)
+    fields.unsigned_64(1)
 }
 
-fn init_of(line: &[u8], fields: Fields) -> Command
-    requires { SplitInto line.now fields }
-    ensures { result ≡ init_of line.now }
+#[tactic(auto, unfolding(crate::specs::Command::init_of))]
+fn init_of(fields: &Fields<'_>) -> Option<Command>
+    ensures { unwrap_or result Unknown ≡ init_of fields.now.line.now }
 {
-    if fields.count != 4 {
-        return Command::Unknown;
+    if !fields.has_exactly(4) {
+        return None;
     }
-    let Signed32::Is(timeout) = fields::signed_32(line, fields, 2) else {
-        return Command::Unknown;
-    };
-    let Signed64::Is(time) = fields::signed_64(line, fields, 3) else {
-        return Command::Unknown;
-    };
-    let name = fields::part_in(fields, 1);
-    Command::Init {
-        name,
-        timeout,
-        time,
-    }
+    Some(Command::Init {
+        name: fields.part(1),
+        timeout: fields.signed_32(2)?,
+        time: fields.signed_64(3)?,
+    })
 }
 
 // Add and End have the same fields.
-fn change_of(line: &[u8], fields: Fields) -> Change
-    requires { SplitInto line.now fields }
-    ensures { ReadsChange line.now result }
+fn change_of(fields: &Fields<'_>) -> Option<Change>
+    ensures { ReadsChange fields.now.line.now result }
 {
-    if fields.count != 6 {
-        return Change::Bad;
+    if !fields.has_exactly(6) {
+        return None;
     }
-    let Signed64::Is(pid) = fields::signed_64(line, fields, 2) else {
-        return Change::Bad;
-    };
-    let Signed16::Is(epoch) = fields::signed_16(line, fields, 3) else {
-        return Change::Bad;
-    };
-    let Unsigned64::Is(value) = fields::unsigned_64(line, fields, 4) else {
-        return Change::Bad;
-    };
-    let Signed64::Is(time) = fields::signed_64(line, fields, 5) else {
-        return Change::Bad;
-    };
-    Change::Is {
-        pid,
-        epoch,
-        value,
-        time,
-    }
+    Some(Change {
+        pid: fields.signed_64(2)?,
+        epoch: fields.signed_16(3)?,
+        value: fields.unsigned_64(4)?,
+        time: fields.signed_64(5)?,
+    })
 }
 
-fn add_of(line: &[u8], fields: Fields) -> Command
-    requires { SplitInto line.now fields }
-    ensures { result ≡ add_of line.now }
+#[tactic(auto, unfolding(crate::specs::Command::add_of))]
+fn add_of(fields: &Fields<'_>) -> Option<Command>
+    ensures { unwrap_or result Unknown ≡ add_of fields.now.line.now }
 {
-    let name = fields::part_in(fields, 1);
-    match change_of(line, fields) {
-        Change::Is {
-            pid,
-            epoch,
-            value,
-            time,
-        } => {
-            Command::Add {
-                name,
-                pid,
-                epoch,
-                set: value,
-                time,
-            }
-        }
-        Change::Bad => Command::Unknown,
-    }
+    let change = change_of(fields)?;
+    Some(Command::Add {
+        name: fields.part(1),
+        pid: change.pid,
+        epoch: change.epoch,
+        set: change.value,
+        time: change.time,
+    })
 }
 
-fn end_of(line: &[u8], fields: Fields) -> Command
-    requires { SplitInto line.now fields }
-    ensures { result ≡ end_of line.now }
+#[tactic(auto, unfolding(crate::specs::Command::end_of))]
+fn end_of(fields: &Fields<'_>) -> Option<Command>
+    ensures { unwrap_or result Unknown ≡ end_of fields.now.line.now }
 {
-    let name = fields::part_in(fields, 1);
-    match change_of(line, fields) {
-        Change::Is {
-            pid,
-            epoch,
-            value,
-            time,
-        } => {
-            Command::End {
-                name,
-                pid,
-                epoch,
-                verdict: value,
-                time,
-            }
-        }
-        Change::Bad => Command::Unknown,
-    }
+    let change = change_of(fields)?;
+    Some(Command::End {
+        name: fields.part(1),
+        pid: change.pid,
+        epoch: change.epoch,
+        verdict: change.value,
+        time: change.time,
+    })
 }
 
-fn tick_of(line: &[u8], fields: Fields) -> Command
-    requires { SplitInto line.now fields }
-    ensures { result ≡ tick_of line.now }
+#[tactic(auto, unfolding(crate::specs::Command::tick_of))]
+fn tick_of(fields: &Fields<'_>) -> Option<Command>
+    ensures { unwrap_or result Unknown ≡ tick_of fields.now.line.now }
 {
-    if fields.count != 2 {
-        return Command::Unknown;
+    if !fields.has_exactly(2) {
+        return None;
     }
-    match fields::signed_64(line, fields, 1) {
-        Signed64::Is(time) => Command::Tick { time },
-        Signed64::Bad => Command::Unknown,
-    }
+    Some(Command::Tick {
+        time: fields.signed_64(1)?,
+    })
 }
 
-fn flush_of(line: &[u8], fields: Fields) -> Command
-    requires { SplitInto line.now fields }
-    ensures { result ≡ flush_of line.now }
+#[tactic(auto, unfolding(crate::specs::Command::flush_of))]
+fn flush_of(fields: &Fields<'_>) -> Option<Command>
+    ensures { unwrap_or result Unknown ≡ flush_of fields.now.line.now }
 {
-    if fields.count != 1 {
-        return Command::Unknown;
+    if !fields.has_exactly(1) {
+        return None;
     }
-    Command::Flush
+    Some(Command::Flush)
 }
 
-fn put_of(line: &[u8], fields: Fields) -> Command
-    requires { SplitInto line.now fields }
-    ensures { result ≡ put_of line.now }
+#[tactic(auto, unfolding(crate::specs::Command::put_of))]
+fn put_of(fields: &Fields<'_>) -> Option<Command>
+    ensures { unwrap_or result Unknown ≡ put_of fields.now.line.now }
 {
-    if fields.count != 7 {
-        return Command::Unknown;
+    if !fields.has_exactly(7) {
+        return None;
     }
-    let Signed64::Is(pid) = fields::signed_64(line, fields, 2) else {
-        return Command::Unknown;
-    };
-    let Signed16::Is(epoch) = fields::signed_16(line, fields, 3) else {
-        return Command::Unknown;
-    };
-    let Unsigned64::Is(position) = fields::unsigned_64(line, fields, 4) else {
-        return Command::Unknown;
-    };
-    let Signed32::Is(sequence) = fields::signed_32(line, fields, 5) else {
-        return Command::Unknown;
-    };
-    let Unsigned64::Is(payload) = fields::unsigned_64(line, fields, 6) else {
-        return Command::Unknown;
-    };
-    let name = fields::part_in(fields, 1);
-    Command::Put {
-        name,
-        pid,
-        epoch,
-        position,
-        sequence,
-        payload,
-    }
-}
-
-fn carry_of(line: &[u8], fields: Fields) -> Command
-    requires { SplitInto line.now fields }
-    ensures { result ≡ carry_of line.now }
-{
-    match one_number(line, fields) {
-        Unsigned64::Is(up) => Command::Carry { up },
-        Unsigned64::Bad => Command::Unknown,
-    }
-}
-
-fn read_of(line: &[u8], fields: Fields) -> Command
-    requires { SplitInto line.now fields }
-    ensures { result ≡ read_of line.now }
-{
-    match one_number(line, fields) {
-        Unsigned64::Is(position) => Command::Read { position },
-        Unsigned64::Bad => Command::Unknown,
-    }
-}
-
-fn cut_of(line: &[u8], fields: Fields) -> Command
-    requires { SplitInto line.now fields }
-    ensures { result ≡ cut_of line.now }
-{
-    match one_number(line, fields) {
-        Unsigned64::Is(kept) => Command::Cut { kept },
-        Unsigned64::Bad => Command::Unknown,
-    }
-}
-
-fn left_of(line: &[u8], fields: Fields) -> Command
-    requires { SplitInto line.now fields }
-    ensures { result ≡ left_of line.now }
-{
-    match one_number(line, fields) {
-        Unsigned64::Is(place) => Command::Left { place },
-        Unsigned64::Bad => Command::Unknown,
-    }
+    Some(Command::Put {
+        name: fields.part(1),
+        pid: fields.signed_64(2)?,
+        epoch: fields.signed_16(3)?,
+        position: fields.unsigned_64(4)?,
+        sequence: fields.signed_32(5)?,
+        payload: fields.unsigned_64(6)?,
+    })
 }
 
 // The command of a line with the word in this row.
-fn command_at(row: usize, line: &[u8], fields: Fields) -> Command
-    requires { SplitInto line.now fields }
-    ensures { result ≡ command_at row line.now }
+#[tactic(auto, unfolding(crate::specs::Command::command_at, crate::specs::Command::carry_of, crate::specs::Command::read_of, crate::specs::Command::cut_of, crate::specs::Command::left_of))]
+fn in_row(row: usize, fields: &Fields<'_>) -> Option<Command>
+    ensures { unwrap_or result Unknown ≡ command_at row fields.now.line.now }
 {
     match row {
-        0 => init_of(line, fields),
-        1 => add_of(line, fields),
-        2 => end_of(line, fields),
-        3 => tick_of(line, fields),
-        4 => flush_of(line, fields),
-        5 => put_of(line, fields),
-        6 => carry_of(line, fields),
-        7 => read_of(line, fields),
-        8 => cut_of(line, fields),
-        9 => left_of(line, fields),
-        _ => Command::Unknown,
+        0 => init_of(fields),
+        1 => add_of(fields),
+        2 => end_of(fields),
+        3 => tick_of(fields),
+        4 => flush_of(fields),
+        5 => put_of(fields),
+        6 => Some(Command::Carry {
+            up: one_number(fields)?,
+        }),
+        7 => Some(Command::Read {
+            position: one_number(fields)?,
+        }),
+        8 => Some(Command::Cut {
+            kept: one_number(fields)?,
+        }),
+        9 => Some(Command::Left {
+            place: one_number(fields)?,
+        }),
+        _ => None,
     }
 }
 
 // The command that a line is, whatever its bytes.
+#[tactic(auto, unfolding(crate::specs::Command::command_of))]
 pub fn parse(line: &[u8]) -> Command
     ensures { result ≡ command_of line.now }
 {
     let fields = fields::split(line);
-    let row = row_of(fields::field_in(line, fields, 0));
-    command_at(row, line, fields)
+    let row = row_of(fields.field(0));
+    in_row(row, &fields).unwrap_or(Command::Unknown)
 }
 
 // The row of a command's word.
@@ -382,39 +254,16 @@ pub fn row_of_command(command: Command) -> usize
     ensures { result ≡ row_of_command command }
 {
     match command {
-        Command::Init {
-            name: _,
-            timeout: _,
-            time: _,
-        } => 0,
-        Command::Add {
-            name: _,
-            pid: _,
-            epoch: _,
-            set: _,
-            time: _,
-        } => 1,
-        Command::End {
-            name: _,
-            pid: _,
-            epoch: _,
-            verdict: _,
-            time: _,
-        } => 2,
-        Command::Tick { time: _ } => 3,
+        Command::Init { .. } => 0,
+        Command::Add { .. } => 1,
+        Command::End { .. } => 2,
+        Command::Tick { .. } => 3,
         Command::Flush => 4,
-        Command::Put {
-            name: _,
-            pid: _,
-            epoch: _,
-            position: _,
-            sequence: _,
-            payload: _,
-        } => 5,
-        Command::Carry { up: _ } => 6,
-        Command::Read { position: _ } => 7,
-        Command::Cut { kept: _ } => 8,
-        Command::Left { place: _ } => 9,
+        Command::Put { .. } => 5,
+        Command::Carry { .. } => 6,
+        Command::Read { .. } => 7,
+        Command::Cut { .. } => 8,
+        Command::Left { .. } => 9,
         Command::Unknown => 10,
     }
 }

@@ -15,8 +15,7 @@ use Rattle.search.specs.Search.{first_where, Each}
 use Rattle.search.proofs.Laws.{first_found, first-before}
 use Rattle.lines.specs.Text.{is_line_feed, Line, whole, long, shown, pending, ended, lines_in, rest_in, kept}
 use Rattle.lines.specs.Cursor.{found_in, line_end, pending_length, pending_bytes, cursor, next_at, next_of, drops, kept_cursor, kept_bytes}
-use Rattle.lines.specs.declared.Found.{Found}
-use Rattle.lines.specs.declared.Found.TheVariants.{At, Nothing}
+use Rattle.std.specs.Prelude.{Option, Some, None}
 use Rattle.lines.specs.declared.Cursor.{Cursor}
 use Rattle.lines.specs.declared.Next.TheVariants.{Line as NextLine, Long, More}
 use Rattle.lines.proofs.Steps.{found_within}
@@ -140,7 +139,7 @@ module _ (buffer : List ℕ) (c : Cursor) where
     rest-next part h (length buffer) c.skipping ∙ ap (rest_in false []) (behind place e),
   )
 
-  found_at : {place : ℕ} → found_in c.from part ≡ At place → (place ≡ c.from + feed) × (feed < length part)
+  found_at : {place : ℕ} → found_in c.from part ≡ Some place → (place ≡ c.from + feed) × (feed < length part)
   found_at f = found_within c.from part f
 
   -- a line is handed on, and what is left is as if it had not been there
@@ -148,8 +147,8 @@ module _ (buffer : List ℕ) (c : Cursor) where
   unfolding next_of line_end
   next-hands-line {from} {len} {rest} e = go (found_in c.from part) refl e
     where
-      go : (found : Found) → found_in c.from part ≡ found → next_at c found ≡ NextLine from len rest → Hands (whole (take len (drop from buffer))) rest
-      go (At place) f q =
+      go : (found : Option ℕ) → found_in c.from part ≡ found → next_at c found ≡ NextLine from len rest → Hands (whole (take len (drop from buffer))) rest
+      go (Some place) f q =
           let p = found_at f in
           let k = line-fields c.skipping q in
           let w : ended (length buffer) c.skipping (take feed part) ≡ whole (take feed part) =
@@ -157,27 +156,27 @@ module _ (buffer : List ℕ) (c : Cursor) where
           let m : feed ≡ len = omega (arith, p.0, k.2) in
           let l : take feed part ≡ take len (drop from buffer) = front p.1 ∙ ap₂ (λ (i j : ℕ). take i (drop j buffer)) m k.1 in
           subst (λ (s : Cursor). Hands (whole (take len (drop from buffer))) s) k.3 (hands place p.0 p.1 (w ∙ ap whole l))
-      go Nothing f q = differ cc
+      go None f q = differ cc
 
   -- a line that did not fit
   pub next-hands-long : {rest : Cursor} → next_of buffer c ≡ Long rest → Hands long rest
   unfolding next_of line_end
   next-hands-long {rest} e = go (found_in c.from part) refl e
     where
-      go : (found : Found) → found_in c.from part ≡ found → next_at c found ≡ Long rest → Hands long rest
-      go (At place) f q =
+      go : (found : Option ℕ) → found_in c.from part ≡ found → next_at c found ≡ Long rest → Hands long rest
+      go (Some place) f q =
           let p = found_at f in
           let k = long-fields c.skipping c.from (place - c.from) q in
           let w : ended (length buffer) c.skipping (take feed part) ≡ long = ap (λ (b : Bool). ended (length buffer) b (take feed part)) k.0 in
           subst (λ (s : Cursor). Hands long s) k.1 (hands place p.0 p.1 w)
-      go Nothing f q = differ cc
+      go None f q = differ cc
 
   -- no line ends in what is read
   pub next-hands-none : next_of buffer c ≡ More → (lines_in (length buffer) c.skipping [] part ≡ []) × (rest_in c.skipping [] part ≡ pending part c.skipping)
   unfolding next_of line_end
   next-hands-none e = go (ltb feed (length part)) refl e
     where
-      go : (b : Bool) → ltb feed (length part) ≡ b → next_at c (cond b (At (c.from + feed)) Nothing) ≡ More
+      go : (b : Bool) → ltb feed (length part) ≡ b → next_at c (cond b (Some (c.from + feed)) None) ≡ More
           → (lines_in (length buffer) c.skipping [] part ≡ []) × (rest_in c.skipping [] part ≡ pending part c.skipping)
       go true f q = not_more c.skipping (cursor (c.from + feed + 1) c.end false) c.from (c.from + feed - c.from) q
       go false f q =

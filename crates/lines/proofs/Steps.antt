@@ -12,8 +12,7 @@ use Rattle.numbers.proofs.Bytes.{overwrite-none}
 use Rattle.search.specs.Search.{first_where}
 use Rattle.lines.specs.Text.{is_line_feed}
 use Rattle.lines.specs.Cursor.{found_in, line_end, pending_length, cursor, next_at, next_of, kept_cursor, kept_bytes, last_of}
-use Rattle.lines.specs.declared.Found.{Found}
-use Rattle.lines.specs.declared.Found.TheVariants.{At, Nothing}
+use Rattle.std.specs.Prelude.{Option, Some, None}
 use Rattle.lines.specs.declared.Cursor.{Cursor}
 use Rattle.lines.specs.declared.Next.TheVariants.{Line, Long, More}
 use Rattle.lines.specs.declared.Last.TheVariants.{Line as LastLine, Long as LastLong, Nothing as LastNothing}
@@ -22,16 +21,16 @@ use Rattle.lines.specs.declared.Last.TheVariants.{Line as LastLine, Long as Last
 differ {ℓ} : {X : Type ℓ} → ◌≡◌ {A = ℕ} 0 1 → X
 differ e = absurd (omega arith)
 
-pub found_within : (from : ℕ) (part : List ℕ) {place : ℕ} → found_in from part ≡ At place → (place ≡ from + first_where is_line_feed part) × (first_where is_line_feed part < length part)
+pub found_within : (from : ℕ) (part : List ℕ) {place : ℕ} → found_in from part ≡ Some place → (place ≡ from + first_where is_line_feed part) × (first_where is_line_feed part < length part)
 found_within from part {place} = go (ltb (first_where is_line_feed part) (length part)) refl
   where
-    go : (b : Bool) → ltb (first_where is_line_feed part) (length part) ≡ b → cond b (At (from + first_where is_line_feed part)) Nothing ≡ At place
+    go : (b : Bool) → ltb (first_where is_line_feed part) (length part) ≡ b → cond b (Some (from + first_where is_line_feed part)) None ≡ Some place
         → (place ≡ from + first_where is_line_feed part) × (first_where is_line_feed part < length part)
     go true h e = (cc, ltb-true (first_where is_line_feed part) (length part) h)
     go false h e = differ cc
 
 -- a line feed lies in the bytes that were searched
-pub end-within : (bytes : List ℕ) (from len : ℕ) {place : ℕ} → line_end bytes from len ≡ At place → (from ≤ place) × (place < length bytes)
+pub end-within : (bytes : List ℕ) (from len : ℕ) {place : ℕ} → line_end bytes from len ≡ Some place → (from ≤ place) × (place < length bytes)
 unfolding line_end
 end-within bytes from len e =
     let w = found_within from (take len (drop from bytes)) e in
@@ -41,25 +40,25 @@ end-within bytes from len e =
 module _ (buffer : List ℕ) (c : Cursor) {len : ℕ} (told : len ≡ pending_length (length buffer) c) where
   -- ---- the next line
 
-  module _ {found : Found} (looked : found ≡ line_end buffer c.from len) where
+  module _ {found : Option ℕ} (looked : found ≡ line_end buffer c.from len) where
     next-is : next_at c found ≡ next_of buffer c
     unfolding next_of
     next-is = ap (next_at c) (looked ∙ ap (line_end buffer c.from) told)
 
-    pub next-long : {place : ℕ} → found ≡ At place → c.skipping ≡ true → Long (cursor (place + 1) c.end false) ≡ next_of buffer c
+    pub next-long : {place : ℕ} → found ≡ Some place → c.skipping ≡ true → Long (cursor (place + 1) c.end false) ≡ next_of buffer c
     next-long {place} e s =
-        let a : Long (cursor (place + 1) c.end false) ≡ next_at c (At place) = rw s in
+        let a : Long (cursor (place + 1) c.end false) ≡ next_at c (Some place) = rw s in
         a ∙ ap (next_at c) (sym e) ∙ next-is
 
-    pub next-line : {place : ℕ} → found ≡ At place → c.skipping ≡ false → Line c.from (place - c.from) (cursor (place + 1) c.end false) ≡ next_of buffer c
+    pub next-line : {place : ℕ} → found ≡ Some place → c.skipping ≡ false → Line c.from (place - c.from) (cursor (place + 1) c.end false) ≡ next_of buffer c
     next-line {place} e s =
-        let a : Line c.from (place - c.from) (cursor (place + 1) c.end false) ≡ next_at c (At place) = rw s in
+        let a : Line c.from (place - c.from) (cursor (place + 1) c.end false) ≡ next_at c (Some place) = rw s in
         a ∙ ap (next_at c) (sym e) ∙ next-is
 
-    pub next_more : found ≡ Nothing → More ≡ next_of buffer c
+    pub next_more : found ≡ None → More ≡ next_of buffer c
     next_more e = ap (next_at c) (sym e) ∙ next-is
 
-    pub place-within : {place : ℕ} → found ≡ At place → (c.from ≤ place) × (place < length buffer)
+    pub place-within : {place : ℕ} → found ≡ Some place → (c.from ≤ place) × (place < length buffer)
     place-within e = end-within buffer c.from len (sym looked ∙ e)
 
   -- ---- making room

@@ -1,10 +1,8 @@
 -- The same in a buffer: a cursor, the next line, and making room.
-use Rattle.std.specs.Prelude.{ℕ, ◌+◌, ◌-◌, ◌≤◌, ◌<◌, min, Bool, true, false, cond, ◌||◌, List, eqb, ltb, length, take, drop}
+use Rattle.std.specs.Prelude.{ℕ, ◌+◌, ◌-◌, ◌≤◌, ◌<◌, min, Bool, true, false, cond, ◌||◌, List, eqb, ltb, length, take, drop, Option, Some, None}
 use Rattle.numbers.specs.Bytes.{overwrite}
 use Rattle.search.specs.Search.{first_where}
 use Rattle.lines.specs.Text.{is_line_feed}
-use Rattle.lines.specs.declared.Found.{Found}
-use Rattle.lines.specs.declared.Found.TheVariants.{At, Nothing}
 use Rattle.lines.specs.declared.Cursor.{Cursor}
 use Rattle.lines.specs.declared.Next.{Next}
 use Rattle.lines.specs.declared.Next.TheVariants.{Line, Long, More}
@@ -12,11 +10,11 @@ use Rattle.lines.specs.declared.Last.{Last}
 use Rattle.lines.specs.declared.Last.TheVariants.{Line as LastLine, Long as LastLong, Nothing as LastNothing}
 
 -- the first line feed of a part that starts at a place
-abbrev pub found_in : ℕ → List ℕ → Found
-found_in from part = let n = first_where is_line_feed part in cond (ltb n (length part)) (At (from + n)) Nothing
+abbrev pub found_in : ℕ → List ℕ → Option ℕ
+found_in from part = let n = first_where is_line_feed part in cond (ltb n (length part)) (Some (from + n)) None
 
 -- the first line feed of the `len` bytes from `from` on
-unfoldable pub line_end : List ℕ → ℕ → ℕ → Found
+unfoldable pub line_end : List ℕ → ℕ → ℕ → Option ℕ
 line_end bytes from len = found_in from (take len (drop from bytes))
 
 -- how many bytes of a buffer of n bytes are read and not handed on, and which; a cursor past the buffer is cut to it
@@ -30,11 +28,11 @@ abbrev pub cursor : ℕ → ℕ → Bool → Cursor
 cursor from end skipping = record { from = from; end = end; skipping = skipping }
 
 -- a line feed ends the line, or the one that did not fit
-abbrev pub next_at : Cursor → Found → Next
-next_at c (At place) =
+abbrev pub next_at : Cursor → Option ℕ → Next
+next_at c (Some place) =
     let rest = cursor (place + 1) c.end false in
     cond c.skipping (Long rest) (Line c.from (place - c.from) rest)
-next_at c Nothing = More
+next_at c None = More
 
 unfoldable pub next_of : List ℕ → Cursor → Next
 next_of buffer c = next_at c (line_end buffer c.from (pending_length (length buffer) c))

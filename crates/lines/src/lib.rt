@@ -3,16 +3,8 @@
 
 ghost use Rattle.std.specs.Prelude.{◌≡◌, ◌+◌, ◌-◌, ◌≤◌, length, take, drop};
 ghost use Rattle.numbers.specs.Bytes.{overwrite};
+ghost use Rattle.lines.specs.Text.{is_line_feed};
 ghost use Rattle.lines.specs.Cursor.{line_end, pending_length, next_of, NextWithin, kept_cursor, kept_bytes, last_of, LastWithin};
-
-const LINE_FEED: u8 = b'\n';
-
-// The place of a line feed, or that there is none.
-#[derive(Clone, Copy)]
-pub enum Found {
-    At(usize),
-    Nothing,
-}
 
 // The bytes of a buffer that are read and not yet handed on, from `from` to `end`. While `skipping`, they go on a line that did not fit the buffer.
 #[derive(Clone, Copy)]
@@ -44,38 +36,28 @@ pub enum Last {
     Nothing,
 }
 
+// Whether a byte ends a line.
+fn is_line_feed(b: u8) -> bool
+    ensures { result ≡ is_line_feed b }
+{
+    b == b'\n'
+}
+
 // The first line feed of the `len` bytes from `from` on.
-pub fn line_end(bytes: &[u8], from: usize, len: usize) -> Found
+pub fn line_end(bytes: &[u8], from: usize, len: usize) -> Option<usize>
     ensures { result ≡ line_end bytes.now from len }
 {
-    let mut i = from;
-    let mut left = len;
-    while 0 < left {
-        if bytes.len() <= i {
-            return Found::Nothing;
-        }
-        if bytes[i] == LINE_FEED {
-            return Found::At(i);
-        }
-        i += 1;
-        left -= 1;
-    }
-    Found::Nothing
+    let rest = bytes.get(from..)?;
+    let part = &rest[..len.min(rest.len())];
+    let place = part.iter().position(|b| is_line_feed(*b))?;
+    Some(from + place)
 }
 
 // How many bytes of a buffer of n bytes are read and not yet handed on.
 fn pending(n: usize, cursor: Cursor) -> usize
     ensures { result ≡ pending_length n cursor }
 {
-    let from = cursor.from;
-    let end = cursor.end;
-    if n < end {
-        if n < from {
-            return 0;
-        }
-        return n - from;
-    }
-    if end < from { 0 } else { end - from }
+    cursor.end.min(n).saturating_sub(cursor.from)
 }
 
 // The next line of what is read.
@@ -84,7 +66,7 @@ pub fn next_line(buffer: &[u8], cursor: Cursor) -> Next
 {
     let from = cursor.from;
     match line_end(buffer, from, pending(buffer.len(), cursor)) {
-        Found::At(place) => {
+        Some(place) => {
             let rest = Cursor {
                 from: place + 1,
                 end: cursor.end,
@@ -99,7 +81,7 @@ pub fn next_line(buffer: &[u8], cursor: Cursor) -> Next
                 rest,
             }
         }
-        Found::Nothing => Next::More,
+        None => Next::More,
     }
 }
 
@@ -108,11 +90,7 @@ fn move_to_front(buffer: &mut [u8], from: usize, n: usize)
     requires { from + n ≤ length buffer.old }
     ensures { buffer.new ≡ overwrite buffer.old 0 (take n (drop from buffer.old)) }
 {
-    let mut i: usize = 0;
-    while i < n {
-        buffer[i] = buffer[from + i];
-        i += 1;
-    }
+    buffer.copy_within(from..from + n, 0);
 }
 
 // Makes room to read on: the unfinished line stands at the front, or is dropped if it fills the buffer.

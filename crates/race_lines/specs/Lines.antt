@@ -1,6 +1,5 @@
 -- The lines of the program `rigrace`: what a line asks, and the line that answers it.
-use Rattle.std.specs.Prelude.{ℕ, cond, ◌&&◌, List, [], ◌∷◌, eqb, ltb, ℤ, length}
-use Rattle.std.proofs.Math.Option.{Option, none, some}
+use Rattle.std.specs.Prelude.{ℕ, cond, ◌&&◌, List, [], ◌∷◌, eqb, ltb, ℤ, length, Option, None, Some}
 use Rattle.numbers.specs.Ascii.{ascii}
 use Rattle.numbers.specs.Bytes.{overwrite, same}
 use Rattle.numbers.specs.Signed.{to_nat}
@@ -22,8 +21,8 @@ race_word = ascii "race"
 
 -- what a number makes of a line; a field that writes none makes it no request
 abbrev pub given : Option ℤ → (ℕ → Request) → Request
-given none f = Unknown
-given (some z) f = f (to_nat z)
+given None f = Unknown
+given (Some z) f = f (to_nat z)
 
 -- field k as a number of 64 bits
 abbrev pub number : List ℕ → ℕ → (ℕ → Request) → Request

@@ -3,11 +3,10 @@
 
 ghost use Rattle.std.specs.Prelude.{◌≡◌, ◌+◌, ◌≤◌, length};
 ghost use Rattle.text.specs.Lines.{Wrote, fields as fields_written};
-ghost use Rattle.fields.specs.Fields.{SplitInto};
 ghost use Rattle.race_lines.specs.Limits.{answer_fields_max, answer_max};
 ghost use Rattle.race_lines.specs.Lines.{board_of, request_of, answer_fields, answer_line, written, bytes_after};
 
-use fields::{Fields, Unsigned64};
+use fields::Fields;
 use race::{Board, RaceAnswer};
 
 // The limit of specs/Limits.antt, under the same name.
@@ -21,20 +20,19 @@ pub enum Request {
 }
 
 // The four numbers behind the word.
-fn board_of(line: &[u8], fields: Fields) -> Request
-    requires { SplitInto line.now fields }
-    ensures { result ≡ board_of line.now }
+fn board_of(fields: &Fields<'_>) -> Request
+    ensures { result ≡ board_of fields.now.line.now }
 {
-    let Unsigned64::Is(partitions) = fields::unsigned_64(line, fields, 1) else {
+    let Some(partitions) = fields.unsigned_64(1) else {
         return Request::Unknown;
     };
-    let Unsigned64::Is(timeout) = fields::unsigned_64(line, fields, 2) else {
+    let Some(timeout) = fields.unsigned_64(2) else {
         return Request::Unknown;
     };
-    let Unsigned64::Is(rounds) = fields::unsigned_64(line, fields, 3) else {
+    let Some(rounds) = fields.unsigned_64(3) else {
         return Request::Unknown;
     };
-    let Unsigned64::Is(blocks) = fields::unsigned_64(line, fields, 4) else {
+    let Some(blocks) = fields.unsigned_64(4) else {
         return Request::Unknown;
     };
     Request::Race(Board {
@@ -46,17 +44,18 @@ fn board_of(line: &[u8], fields: Fields) -> Request
 }
 
 // What a line of any bytes asks.
+#[tactic(auto, unfolding(crate::specs::Lines::request_of))]
 pub fn parse(line: &[u8]) -> Request
     ensures { result ≡ request_of line.now }
 {
     let fields = fields::split(line);
-    if fields.count != 5 {
+    if !fields.has_exactly(5) {
         return Request::Unknown;
     }
-    if fields::field_in(line, fields, 0) != b"race".as_slice() {
+    if fields.field(0) != b"race".as_slice() {
         return Request::Unknown;
     }
-    board_of(line, fields)
+    board_of(&fields)
 }
 
 // Writes the fields of an answer.

@@ -1,27 +1,23 @@
 -- `command::row_of` meets its contract.
-use mathlib.Core.Path.{sym, ◌∙◌}
-use native.Mathlib.Nat.{zero-add}
-use native.Mathlib.Omega.{arith}
-use Rattle.command.specs.Words.{row_of}
-use Rattle.command.proofs.Rows.{row-found, row_on, row-past}
+use Prim.Native.Nat.{ℕ}
+use mathlib.Core.List.{List}
+use denote.Bor.{Bor}
+use lib.ListN.{length}
+use Rattle.std.proofs.Common.{ap, ◌∙◌, rules, tests}
+use Rattle.std.proofs.lemmas.Iterator.{YieldsList-from_slice}
+use Rattle.std.proofs.lemmas.Iterator.Search.{position_from_yields_List}
+use Rattle.numbers.specs.Bytes.{same}
+use Rattle.search.specs.Search.{first_where}
+use Rattle.search.proofs.Std.{found_is}
 use Rattle.command.proofs.row_of.Goals as goal
 
-pub loop-row-init : goal.loop-row-init
-loop-row-init c = (omega arith, sym (zero-add (row_of c.args.run.now)))
-
-pub returns-then-is_word : goal.returns-then-is_word
-returns-then-is_word c =
-    row-found c.args.run.now c.loop-row.row (omega arith) c.loop-row.invariant.1 (sym c.is_word.ensures ∙ c.if-is_word.true)
-
-pub overflow_add-row : goal.overflow_add-row
-overflow_add-row c = omega arith
-
-pub loop-row-smaller : goal.loop-row-smaller
-loop-row-smaller c = omega arith
-
-pub loop-row-preserved : goal.loop-row-preserved
-loop-row-preserved c =
-    (omega arith, row_on c.args.run.now c.loop-row.row (omega arith) c.loop-row.invariant.1 (sym c.is_word.ensures ∙ c.if-is_word.false))
-
 pub returns : goal.returns
-returns c = row-past c.args.run.now c.loop-row.row (omega arith) c.loop-row.invariant.1
+unfolding first_where
+returns c =
+    let is = λ (word : Bor (List ℕ)). same c.args.run.now word.now in
+    let all = c.iter-words.result.rest.now in
+    let e = c.iter-words.ensures.rest in
+    c.unwrap_or.ensures
+    ∙ found_is is all c.position.result 10 (ap length e)
+    (position_from_yields_List is _ _ c.position.result c.position.ensures.ran (YieldsList-from_slice all cc) (λ x b q k. search (rules, tests)))
+    ∙ ap (first_where is) e
