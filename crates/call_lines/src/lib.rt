@@ -1,8 +1,6 @@
 // The lines of a call script: the fields of a line, the numbers that they write, and which line it is by its word and the kinds of its fields.
 #![tactic(auto)]
 
-use std::str::FromStr;
-
 // Which line it is.
 #[derive(Clone, Copy, Debug, PartialEq, Eq)]
 pub enum Kind {
@@ -77,21 +75,22 @@ pub fn field(line: &[u8], k: usize) -> &[u8] {
     line.split(|b| *b == b' ').nth(k).unwrap_or(b"")
 }
 
-// The number that a run of bytes writes in decimal, if its type holds it. The only sign is `-`.
-fn parsed<T: FromStr>(run: &[u8]) -> Option<T>
+// The number that a run of bytes writes in decimal, if its type holds it. The only sign is `-`, also before 0.
+fn parsed<T: TryFrom<i128>>(run: &[u8]) -> Option<T>
 where
-    T::Err: Drop,
+    T::Error: Drop,
 {
     if run.starts_with(b"+") {
         return None;
     }
-    str::from_utf8(run).ok()?.parse().ok()
+    let number: i128 = str::from_utf8(run).ok()?.parse().ok()?;
+    T::try_from(number).ok()
 }
 
 // The number of field k, or 0 where it writes none of this type.
-pub fn number<T: FromStr + Default>(line: &[u8], k: usize) -> T
+pub fn number<T: TryFrom<i128> + Default>(line: &[u8], k: usize) -> T
 where
-    T::Err: Drop,
+    T::Error: Drop,
 {
     parsed(field(line, k)).unwrap_or_default()
 }
