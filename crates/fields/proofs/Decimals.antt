@@ -1,19 +1,19 @@
 -- Laws of digits, as the loop that reads them needs them.
-use Prim.Native.Nat.{ℕ, ◌+◌, ◌-◌, ◌*◌, ◌^◌, ◌≤◌, ◌<◌}
+use Prim.Native.Nat.{ℕ, suc, ◌+◌, ◌-◌, ◌*◌, ◌^◌, ◌≤◌, ◌<◌}
 use Prim.Native.Char.{code}
 use mathlib.Core.Path.{◌≡◌, refl}
 use mathlib.Core.Bool.{Bool, true, false, cond}
 use mathlib.Core.List.{List, [], ◌∷◌}
-use mathlib.Core.Option.{none, some}
+use Rattle.std.specs.Prelude.{None, Some}
 use native.Mathlib.Numerals.{add-one}
 use native.Mathlib.Omega.{arith}
-use borrow.Author.Tests.{lt-ltb, le-ltb, le-leb, lt-leb}
+use borrow.Author.Tests.{lt-ltb, le-ltb, eqb-true, eqb-false}
+use lib.Dec.{eqb}
 use lib.ListN.{length, drop, get_or, drop_of_length-le}
 use lib.Seq.{drop-cons}
 use Rattle.search.specs.Search.{all}
 use Rattle.text.specs.Decimal.{value_from, value_of}
-use Rattle.fields.specs.Numbers.{is_digit, natural_of, held_digits}
-use Rattle.fields.specs.declared.Digits.TheVariants.{Value, Bad}
+use Rattle.fields.specs.Numbers.{is_digit, natural_of, below_word}
 
 -- more digits do not make a number less
 value-least : (a : ℕ) (cs : List ℕ) → a ≤ value_from a cs
@@ -34,17 +34,13 @@ module _ (s : List ℕ) (i : ℕ) (h : i < length s) where
   pub value-above : (a : ℕ) → a * 10 + (get_or s i 0 - code "0") ≤ value_from a (drop i s)
   value-above a = rw (value-more a) (value-least (a * 10 + (get_or s i 0 - code "0")) (drop (i + 1) s))
 
-  pub digit-more : code "0" ≤ get_or s i 0 → get_or s i 0 ≤ code "9" → all is_digit (drop i s) ≡ all is_digit (drop (i + 1) s)
+  pub digit-more : is_digit (get_or s i 0) ≡ true → all is_digit (drop i s) ≡ all is_digit (drop (i + 1) s)
   unfolding all
-  digit-more l u = rw (split, le-leb (code "0") (get_or s i 0) l, le-leb (get_or s i 0) (code "9") u)
+  digit-more e = rw (split, e)
 
-  pub digit_low : get_or s i 0 < code "0" → all is_digit (drop i s) ≡ false
+  pub digit-none : is_digit (get_or s i 0) ≡ false → all is_digit (drop i s) ≡ false
   unfolding all
-  digit_low l = rw (split, lt-leb (code "0") (get_or s i 0) l)
-
-  pub digit-high : code "0" ≤ get_or s i 0 → code "9" < get_or s i 0 → all is_digit (drop i s) ≡ false
-  unfolding all
-  digit-high l u = rw (split, le-leb (code "0") (get_or s i 0) l, lt-leb (get_or s i 0) (code "9") u)
+  digit-none e = rw (split, e)
 
 pub value-end : (s : List ℕ) (i a : ℕ) → length s ≤ i → value_from a (drop i s) ≡ a
 unfolding value_from
@@ -56,24 +52,26 @@ digits-end s i h = rw (drop_of_length-le s h)
 
 -- ---- the answers
 
-pub digits-none : (s : List ℕ) (at : ℕ) → length s ≤ at → Bad ≡ held_digits (natural_of (drop at s))
+pub digits-none : (s : List ℕ) → eqb (length s) 0 ≡ true → None ≡ below_word (natural_of s)
 unfolding natural_of
-digits-none s at h = rw (drop_of_length-le s h)
+digits-none [] h = refl
+digits-none (c ∷ s) h = absurd (omega (arith, eqb-true (suc (length s)) 0 h))
 
-module _ (s : List ℕ) (at : ℕ) (h : at < length s) where
-  some-digits : natural_of (drop at s) ≡ cond (all is_digit (drop at s)) (some (value_of (drop at s))) none
-  unfolding natural_of
-  some-digits = rw (split s at h)
+some-digits : (s : List ℕ) → eqb (length s) 0 ≡ false → natural_of s ≡ cond (all is_digit s) (Some (value_of s)) None
+unfolding natural_of
+some-digits [] h = absurd (omega (arith, eqb-false 0 0 h))
+some-digits (c ∷ s) h = refl
 
-  pub digits-bad : all is_digit (drop at s) ≡ false → Bad ≡ held_digits (natural_of (drop at s))
-  digits-bad e = rw (some-digits, e)
+module _ (s : List ℕ) (h : eqb (length s) 0 ≡ false) where
+  pub digits-bad : all is_digit s ≡ false → None ≡ below_word (natural_of s)
+  digits-bad e = rw (some-digits s h, e)
 
-  pub digits-large : 2 ^ 64 ≤ value_of (drop at s) → Bad ≡ held_digits (natural_of (drop at s))
-  digits-large l = rw some-digits (go (all is_digit (drop at s)))
+  pub digits-large : 2 ^ 64 ≤ value_of s → None ≡ below_word (natural_of s)
+  digits-large l = rw (some-digits s h) (go (all is_digit s))
     where
-      go : (b : Bool) → Bad ≡ held_digits (cond b (some (value_of (drop at s))) none)
-      go true = rw (le-ltb (value_of (drop at s)) (2 ^ 64) l)
+      go : (b : Bool) → None ≡ below_word (cond b (Some (value_of s)) None)
+      go true = rw (le-ltb (value_of s) (2 ^ 64) l)
       go false = refl
 
-  pub digits_value : {n : ℕ} → all is_digit (drop at s) ≡ true → n ≡ value_of (drop at s) → n < 2 ^ 64 → Value n ≡ held_digits (natural_of (drop at s))
-  digits_value {n} e v l = rw (some-digits, e, ← v, lt-ltb n (2 ^ 64) l)
+  pub digits_value : {n : ℕ} → all is_digit s ≡ true → n ≡ value_of s → n < 2 ^ 64 → Some n ≡ below_word (natural_of s)
+  digits_value {n} e v l = rw (some-digits s h, e, ← v, lt-ltb n (2 ^ 64) l)

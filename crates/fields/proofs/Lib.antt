@@ -1,7 +1,4 @@
--- Laws of the crate fields: the public module is for callers, the others for the functions' own proofs.
-mod Parts
+-- Laws of the crate fields, for the functions' own proofs.
 mod Splitting
-pub mod Held
 mod Decimals
 mod Ranges
-mod Widths

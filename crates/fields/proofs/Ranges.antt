@@ -1,34 +1,32 @@
 -- Laws of what a field writes as a number: over the limits, and so for every width and for signed and unsigned numbers.
-use Prim.Native.Nat.{ℕ, zero, suc, ◌-◌, ◌^◌, ◌≤◌, ◌<◌}
+use Prim.Native.Nat.{ℕ, zero, suc, ◌^◌, ◌≤◌, ◌<◌}
 use mathlib.Core.Path.{◌≡◌, refl, sym, ap, ◌∙◌}
 use mathlib.Core.Bool.{Bool, true, false, cond, ◌&&◌}
-use mathlib.Core.List.{List, [], ◌∷◌}
-use mathlib.Core.Option.{Option, none, some}
+use mathlib.Core.List.{List}
+use Rattle.std.specs.Prelude.{Option, None, Some}
 use native.Mathlib.Omega.{arith}
-use borrow.Author.Tests.{ltb-false, le-leb, lt-leb, leb-true}
+use borrow.Author.Tests.{ltb-false, le-leb, lt-leb}
 use lib.Dec.{ltb, leb, leb-zero, leb-suc-zero, leb-suc-suc}
-use lib.IntN.{ℤ, pos, negsuc, neg_ℤ}
-use lib.ListN.{length, drop}
+use lib.IntN.{ℤ, pos, neg_ℤ}
+use lib.ListN.{drop}
 use Rattle.numbers.specs.Signed.{in_range}
-use Rattle.fields.specs.Numbers.{natural_of, negated, natural, has_sign, integer_of, within, held_digits}
-use Rattle.fields.specs.declared.Digits.TheVariants.{Value, Bad as BadDigits}
+use Rattle.fields.specs.Numbers.{natural_of, negated, natural, has_sign, integer_of, within, below_word}
 
--- ---- the digits
+-- ---- a number that 64 bits hold, or none
 
-pub held-value : (o : Option ℕ) {n : ℕ} → held_digits o ≡ Value n → o ≡ some n
-held-value none e = absurd (let z : ◌≡◌ {A = ℕ} 0 1 = cc in omega arith)
-held-value (some m) {n} e = go (ltb m (2 ^ 64)) e
+word : (o : Option ℕ) {n : ℕ} → below_word o ≡ Some n → o ≡ Some n
+word None e = cc
+word (Some m) {n} e = go (ltb m (2 ^ 64)) e
   where
-    go : (b : Bool) → cond b (Value m) BadDigits ≡ Value n → some m ≡ some n
-    go true f = cc
-    go false f = absurd (let z : ◌≡◌ {A = ℕ} 0 1 = cc in omega arith)
+    go : (b : Bool) → cond b (Some m) None ≡ Some n → Some m ≡ Some n
+    go true f = f
+    go false f = cc
 
--- no number, or one past 64 bits
-held-bad : {C : Type 0} (o : Option ℕ) → held_digits o ≡ BadDigits → (o ≡ none → C) → ((n : ℕ) → o ≡ some n → 2 ^ 64 ≤ n → C) → C
-held-bad none e f g = f refl
-held-bad {C} (some m) e f g = go (ltb m (2 ^ 64)) refl e
+no-word : {C : Type 0} (o : Option ℕ) → below_word o ≡ None → (o ≡ None → C) → ((n : ℕ) → o ≡ Some n → 2 ^ 64 ≤ n → C) → C
+no-word None e f g = f refl
+no-word {C} (Some m) e f g = go (ltb m (2 ^ 64)) refl e
   where
-    go : (b : Bool) → ltb m (2 ^ 64) ≡ b → cond b (Value m) BadDigits ≡ BadDigits → C
+    go : (b : Bool) → ltb m (2 ^ 64) ≡ b → cond b (Some m) None ≡ None → C
     go true h k = absurd (let z : ◌≡◌ {A = ℕ} 0 1 = cc in omega arith)
     go false h k = g m refl (ltb-false m (2 ^ 64) h)
 
@@ -52,69 +50,40 @@ module _ (below most : ℕ) where
   abbrev fit : Option ℤ → Option ℤ
   fit = within (neg_ℤ (pos below)) (pos most)
 
-  pub negated_fits : (n : ℕ) → n ≤ below → fit (negated (some n)) ≡ some (neg_ℤ (pos n))
+  negated_fits : (n : ℕ) → n ≤ below → fit (negated (Some n)) ≡ Some (neg_ℤ (pos n))
   negated_fits n h = rw (range-negated below most n, le-leb n below h)
 
-  negated-past : (n : ℕ) → below < n → fit (negated (some n)) ≡ none
+  negated-past : (n : ℕ) → below < n → fit (negated (Some n)) ≡ None
   negated-past n h = rw (range-negated below most n, lt-leb n below h)
 
-  natural-fits : (n : ℕ) → n ≤ most → fit (natural (some n)) ≡ some (pos n)
+  natural-fits : (n : ℕ) → n ≤ most → fit (natural (Some n)) ≡ Some (pos n)
   natural-fits n h = rw (range-natural below most n, le-leb n most h)
 
-  natural-past : (n : ℕ) → most < n → fit (natural (some n)) ≡ none
+  natural-past : (n : ℕ) → most < n → fit (natural (Some n)) ≡ None
   natural-past n h = rw (range-natural below most n, lt-leb n most h)
 
-  -- ---- digits behind a sign
+  -- ---- a number of 64 bits
 
   module _ (o : Option ℕ) where
-    pub sign_zero : {n : ℕ} → held_digits o ≡ Value n → n ≡ 0 → some (pos 0) ≡ fit (negated o)
-    sign_zero {n} e z = rw (held-value o e, z, negated_fits 0 (omega arith))
+    -- digits behind a sign
+    pub sign_fits : {n : ℕ} → below_word o ≡ Some n → n ≤ below → Some (neg_ℤ (pos n)) ≡ fit (negated o)
+    sign_fits {n} e h = rw (word o e, negated_fits n h)
 
-    pub sign_fits : (n : ℕ) → held_digits o ≡ Value n → (n ≡ 0 → ⊥) → n ≤ below → some (negsuc (n - 1)) ≡ fit (negated o)
-    sign_fits zero e z h = absurd (z refl)
-    sign_fits (suc n) e z h = let m : suc n - 1 ≡ n = omega arith in rw (held-value o e, negated_fits (suc n) h, m)
+    pub sign-past : {n : ℕ} → below_word o ≡ Some n → below < n → None ≡ fit (negated o)
+    sign-past {n} e h = rw (word o e, negated-past n h)
 
-    pub sign-past : {n : ℕ} → held_digits o ≡ Value n → below < n → none ≡ fit (negated o)
-    sign-past {n} e h = rw (held-value o e, negated-past n h)
+    pub sign-bad : below < 2 ^ 64 → below_word o ≡ None → None ≡ fit (negated o)
+    sign-bad l e = no-word o e (λ f. rw f) (λ n f h. rw (f, negated-past n (omega arith)))
 
-    pub sign-bad : below < 2 ^ 64 → held_digits o ≡ BadDigits → none ≡ fit (negated o)
-    sign-bad l e = held-bad o e (λ f. rw f) (λ n f h. rw (f, negated-past n (omega arith)))
+    -- digits alone
+    pub digits-fit : {n : ℕ} → below_word o ≡ Some n → n ≤ most → Some (pos n) ≡ fit (natural o)
+    digits-fit {n} e h = rw (word o e, natural-fits n h)
 
-    -- ---- digits alone
+    pub digits-past : {n : ℕ} → below_word o ≡ Some n → most < n → None ≡ fit (natural o)
+    digits-past {n} e h = rw (word o e, natural-past n h)
 
-    pub digits-fit : {n : ℕ} → held_digits o ≡ Value n → n ≤ most → some (pos n) ≡ fit (natural o)
-    digits-fit {n} e h = rw (held-value o e, natural-fits n h)
-
-    pub digits-past : {n : ℕ} → held_digits o ≡ Value n → most < n → none ≡ fit (natural o)
-    digits-past {n} e h = rw (held-value o e, natural-past n h)
-
-    pub digits-bad : most < 2 ^ 64 → held_digits o ≡ BadDigits → none ≡ fit (natural o)
-    digits-bad l e = held-bad o e (λ f. rw f) (λ n f h. rw (f, natural-past n (omega arith)))
-
-    -- the greatest number does not matter behind a sign
-    pub sign-most : (other : ℕ) → fit (negated o) ≡ within (neg_ℤ (pos below)) (pos other) (negated o)
-    sign-most other = go o
-      where
-        go : (p : Option ℕ) → fit (negated p) ≡ within (neg_ℤ (pos below)) (pos other) (negated p)
-        go none = refl
-        go (some n) = rw (range-negated below most n, range-negated below other n)
-
-  -- ---- what was read lies within the limits
-
-  kept : (o : Option ℤ) {z : ℤ} → fit o ≡ some z → in_range (neg_ℤ (pos below)) (pos most) z ≡ true
-  kept none e = absurd (let z : ◌≡◌ {A = ℕ} 0 1 = cc in omega arith)
-  kept (some y) {z} e = go (in_range (neg_ℤ (pos below)) (pos most) y) refl e
-    where
-      go : (b : Bool) → in_range (neg_ℤ (pos below)) (pos most) y ≡ b → cond b (some y) none ≡ some z → in_range (neg_ℤ (pos below)) (pos most) z ≡ true
-      go true h f = let q : y ≡ z = cc in rw q at h
-      go false h f = absurd (let q : ◌≡◌ {A = ℕ} 0 1 = cc in omega arith)
-
-  module _ (o : Option ℤ) where
-    pub reads-natural : {n : ℕ} → some (pos n) ≡ fit o → n ≤ most
-    reads-natural {n} e = leb-true n most (sym (range-natural below most n) ∙ kept o (sym e))
-
-    pub reads-negative : {n : ℕ} → some (negsuc n) ≡ fit o → n < below
-    reads-negative {n} e = leb-true (suc n) below (sym (range-negated below most (suc n)) ∙ kept o (sym e))
+    pub digits-bad : most < 2 ^ 64 → below_word o ≡ None → None ≡ fit (natural o)
+    digits-bad l e = no-word o e (λ f. rw f) (λ n f h. rw (f, natural-past n (omega arith)))
 
 -- ---- with a sign or without
 
@@ -125,7 +94,3 @@ integer-sign s e = rw e
 pub integer-natural : (s : List ℕ) → has_sign s ≡ false → integer_of s ≡ natural (natural_of s)
 unfolding integer_of
 integer-natural s e = rw e
-
-pub sign-empty : (s : List ℕ) → length s ≡ 0 → false ≡ has_sign s
-sign-empty [] e = refl
-sign-empty (c ∷ s) e = absurd (omega arith)

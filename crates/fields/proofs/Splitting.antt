@@ -75,7 +75,7 @@ module _ (line : List ℕ) (parts : List Part) (n from i : ℕ) (long : length p
         passed ∙ rw (split, from_on from (i - from) (get_or line i 0) (drop (i + 1) line) e, next) refl
 
     -- where that was the seventh field there is an eighth
-    pub split-full : n + 1 ≡ fields_max → separates (get_or line i 0) ≡ true → SplitInto line (record { parts = more; count = fields_max + 1 })
+    pub split-full : n + 1 ≡ fields_max → separates (get_or line i 0) ≡ true → SplitInto line more (fields_max + 1)
     split-full full e =
         let p = parted e in
         let rest = fields_from (i + 1) 0 (drop (i + 1) line) in
@@ -87,7 +87,7 @@ module _ (line : List ℕ) (parts : List Part) (n from i : ℕ) (long : length p
         )
 
   -- at the end of the line
-  pub split-end : length line ≤ i → SplitInto line (record { parts = more; count = n + 1 })
+  pub split-end : length line ≤ i → SplitInto line more (n + 1)
   split-end past =
       let f : fields_from from (i - from) (drop i line) ≡ part from (i - from) ∷ [] =
       rw (drop_of_length-le line past) (from_end from (i - from)) in

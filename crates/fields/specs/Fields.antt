@@ -3,7 +3,6 @@ use Rattle.std.specs.Prelude.{ℕ, ◌+◌, min, ◌≡◌, Bool, cond, ◌||◌
 use Prim.Native.Char.{code}
 use Rattle.fields.specs.Limits.{fields_max}
 use Rattle.fields.specs.declared.Part.{Part}
-use Rattle.fields.specs.declared.Fields.{Fields}
 
 -- whether a byte parts two fields
 abbrev pub separates : ℕ → Bool
@@ -42,12 +41,12 @@ abbrev pub field : List ℕ → ℕ → List ℕ
 field line k = bytes_of line (part_at line k)
 
 -- what an array holds of the fields of a line: all, or the first seven
-abbrev pub SplitInto : List ℕ → Fields → Type 0
-SplitInto line f = (f.count ≡ min (count line) (fields_max + 1)) × (take f.count f.parts ≡ take fields_max (fields_of line))
+abbrev pub SplitInto : List ℕ → List Part → ℕ → Type 0
+SplitInto line parts n = (n ≡ min (count line) (fields_max + 1)) × (take n parts ≡ take fields_max (fields_of line))
 
--- where field k stands by that array, and its bytes: an empty part past the count, and past the seventh
-abbrev pub part_in : Fields → ℕ → Part
-part_in f k = get_or (take fields_max (take f.count f.parts)) k blank
+-- where field k stands among the fields that are kept, and its bytes: an empty part past the last, and past the seventh
+abbrev pub part_in : List ℕ → ℕ → Part
+part_in line k = get_or (take fields_max (fields_of line)) k blank
 
-abbrev pub field_in : List ℕ → Fields → ℕ → List ℕ
-field_in line f k = bytes_of line (part_in f k)
+abbrev pub field_in : List ℕ → ℕ → List ℕ
+field_in line k = bytes_of line (part_in line k)

@@ -1,10 +1,11 @@
 // The fields of a line, and what a field writes as a number.
 #![tactic(auto)]
 
-ghost use Rattle.std.specs.Prelude.{◌≡◌, min, pos, neg_ℤ, drop};
+ghost use Rattle.std.specs.Prelude.{◌≡◌, ◌+◌, min, false, true, pos, neg_ℤ, drop, MatchOption};
 ghost use Rattle.std.specs.Int.{w16, w32, w64};
-ghost use Rattle.fields.specs.Fields.{separates, bytes_of, SplitInto, part_in, field_in};
-ghost use Rattle.fields.specs.Numbers.{natural_of, negated, has_sign, integer_of, within, signed, unsigned, held_digits, value_number, value16, value32, value64, value_unsigned};
+ghost use Rattle.fields.specs.Limits.{fields_max};
+ghost use Rattle.fields.specs.Fields.{separates, bytes_of, SplitInto, count, part_in, field_in};
+ghost use Rattle.fields.specs.Numbers.{natural_of, natural, has_sign, integer_of, within, signed, unsigned, below_word};
 
 // The limit of specs/Limits.antt, under the same name.
 pub const FIELDS_MAX: usize = 7;
@@ -16,68 +17,23 @@ pub struct Part {
     pub len: usize,
 }
 
-// The fields of a line, of which the first `count` parts are set; a line of more than seven has count 8.
+// A line and its fields, of which the first `count` parts are set; a line of more than seven has count 8.
 #[derive(Clone, Copy)]
-pub struct Fields {
-    pub parts: [Part; FIELDS_MAX],
-    pub count: usize,
-}
-
-// What digits write, if that is a number of 64 bits.
-#[derive(Clone, Copy)]
-enum Digits {
-    Value(u64),
-    Bad,
-}
-
-// What a run of bytes writes: n, or −(n + 1), or no number within its limits.
-#[derive(Clone, Copy)]
-pub enum Number {
-    Natural(u64),
-    Negative(u64),
-    Bad,
-}
-
-// A number of each type, or that a field writes none.
-#[derive(Clone, Copy)]
-pub enum Signed16 {
-    Is(i16),
-    Bad,
-}
-
-#[derive(Clone, Copy)]
-pub enum Signed32 {
-    Is(i32),
-    Bad,
-}
-
-#[derive(Clone, Copy)]
-pub enum Signed64 {
-    Is(i64),
-    Bad,
-}
-
-#[derive(Clone, Copy)]
-pub enum Unsigned64 {
-    Is(u64),
-    Bad,
+pub struct Fields<'a> {
+    line: &'a [u8],
+    parts: [Part; FIELDS_MAX],
+    count: usize,
+    ghost split: { SplitInto line.now parts count },
 }
 
 // ---- Parts.
-
-// The lesser of two numbers.
-fn lesser(a: usize, b: usize) -> usize
-    ensures { result ≡ min a b }
-{
-    if a < b { a } else { b }
-}
 
 // The bytes of a part of a line, or as many of them as there are.
 pub fn bytes_of(line: &[u8], part: Part) -> &[u8]
     ensures { result.now ≡ bytes_of line.now part }
 {
-    let start = lesser(part.from, line.len());
-    let past = start + lesser(part.len, line.len() - start);
+    let start = part.from.min(line.len());
+    let past = start + part.len.min(line.len() - start);
     &line[start..past]
 }
 
@@ -91,15 +47,14 @@ fn separates(b: u8) -> bool
 }
 
 // The fields of a line; no command has more than seven, so the rest of a longer line is not read.
-pub fn split(line: &[u8]) -> Fields
-    ensures { SplitInto line.now result }
+pub fn split(line: &[u8]) -> Fields<'_>
+    ensures { result.line.now ≡ line.now }
 {
     let mut parts = [Part { from: 0, len: 0 }; FIELDS_MAX];
     let mut count: usize = 0;
     let mut from: usize = 0;
-    let mut i: usize = 0;
-    while i < line.len() {
-        if separates(line[i]) {
+    for (i, b) in line.iter().enumerate() {
+        if separates(*b) {
             parts[count] = Part {
                 from,
                 len: i - from,
@@ -107,170 +62,125 @@ pub fn split(line: &[u8]) -> Fields
             count += 1;
             if count == FIELDS_MAX {
                 return Fields {
+                    line,
                     parts,
                     count: FIELDS_MAX + 1,
                 };
             }
             from = i + 1;
         }
-        i += 1;
     }
     parts[count] = Part {
         from,
-        len: i - from,
+        len: line.len() - from,
     };
     Fields {
+        line,
         parts,
         count: count + 1,
     }
 }
 
-// Where field k stands; an empty part past the last field, and past the seventh.
-pub fn part_in(fields: Fields, k: usize) -> Part
-    ensures { result ≡ part_in fields k }
-{
-    if FIELDS_MAX <= k {
-        return Part { from: 0, len: 0 };
+impl<'a> Fields<'a> {
+    // How many fields the line has; 8 for a line of more than seven.
+    pub fn count(&self) -> usize
+        ensures { result ≡ min (count self.now.line.now) (fields_max + 1) }
+    {
+        self.count
     }
-    if fields.count <= k {
-        return Part { from: 0, len: 0 };
-    }
-    fields.parts[k]
-}
 
-// The bytes of field k.
-pub fn field_in(line: &[u8], fields: Fields, k: usize) -> &[u8]
-    ensures { result.now ≡ field_in line.now fields k }
-{
-    bytes_of(line, part_in(fields, k))
+    // Where field k stands; an empty part past the last field, and past the seventh.
+    pub fn part(&self, k: usize) -> Part
+        ensures { result ≡ part_in self.now.line.now k }
+    {
+        if FIELDS_MAX <= k || self.count <= k {
+            return Part { from: 0, len: 0 };
+        }
+        self.parts[k]
+    }
+
+    // The bytes of field k.
+    pub fn field(&self, k: usize) -> &'a [u8]
+        ensures { result.now ≡ field_in self.now.line.now k }
+    {
+        bytes_of(self.line, self.part(k))
+    }
+
+    // ---- The number that field k writes, if its type holds it: a function for each type, as one over a trait would be longer by the trait's four impls.
+
+    pub fn signed_16(&self, k: usize) -> Option<i16>
+        ensures { result ≡ signed w16 (field_in self.now.line.now k) }
+    {
+        let number = read_number(self.field(k), 0x8000, 0x7fff)?;
+        Some(number as i16)
+    }
+
+    pub fn signed_32(&self, k: usize) -> Option<i32>
+        ensures { result ≡ signed w32 (field_in self.now.line.now k) }
+    {
+        let number = read_number(self.field(k), 0x8000_0000, 0x7fff_ffff)?;
+        Some(number as i32)
+    }
+
+    pub fn signed_64(&self, k: usize) -> Option<i64>
+        ensures { result ≡ signed w64 (field_in self.now.line.now k) }
+    {
+        let number = read_number(self.field(k), 0x8000_0000_0000_0000, 0x7fff_ffff_ffff_ffff)?;
+        Some(number as i64)
+    }
+
+    pub fn unsigned_64(&self, k: usize) -> Option<u64>
+        ensures { natural result ≡ unsigned (field_in self.now.line.now k) }
+    {
+        let number = read_number(self.field(k), 0, u64::MAX)?;
+        Some(number as u64)
+    }
 }
 
 // ---- Numbers.
 
-// What the bytes from `at` on write in decimal.
-fn read_digits(s: &[u8], at: usize) -> Digits
-    ensures { result ≡ held_digits (natural_of (drop at s.now)) }
+// What bytes write in decimal, if that is a number of 64 bits.
+fn read_digits(s: &[u8]) -> Option<u64>
+    ensures { result ≡ below_word (natural_of s.now) }
 {
-    if s.len() <= at {
-        return Digits::Bad;
+    if s.is_empty() {
+        return None;
     }
     let mut value: u64 = 0;
-    let mut i = at;
-    while i < s.len() {
-        let b = s[i];
-        if b < b'0' {
-            return Digits::Bad;
+    for b in s {
+        if !b.is_ascii_digit() {
+            return None;
         }
-        if b'9' < b {
-            return Digits::Bad;
-        }
-        let d = (b - b'0') as u64;
-        if (u64::MAX - d) / 10 < value {
-            return Digits::Bad;
-        }
-        value = value * 10 + d;
-        i += 1;
+        let d = (*b - b'0') as u64;
+        value = value.checked_mul(10)?.checked_add(d)?;
     }
-    Digits::Value(value)
+    Some(value)
 }
 
-// A number behind its sign, if it is at least −below.
-fn read_negative(s: &[u8], below: u64) -> Number
-    ensures { value_number result ≡ within (neg_ℤ (pos below)) (pos 0) (negated (natural_of (drop 1 s.now))) }
+// What stands behind a sign, if one stands first.
+fn behind_sign(s: &[u8]) -> Option<&[u8]>
+    ensures { MatchOption result (has_sign s.now ≡ false) (λ digits. (has_sign s.now ≡ true) × (digits.now ≡ drop 1 s.now)) }
 {
-    match read_digits(s, 1) {
-        Digits::Value(n) => {
-            if n == 0 {
-                return Number::Natural(0);
-            }
-            if n <= below {
-                Number::Negative(n - 1)
-            } else {
-                Number::Bad
-            }
-        }
-        Digits::Bad => Number::Bad,
+    if let [b'-', digits @ ..] = s {
+        return Some(digits);
     }
-}
-
-// Whether a sign stands first.
-fn has_sign(s: &[u8]) -> bool
-    ensures { result ≡ has_sign s.now }
-{
-    if s.len() == 0 {
-        return false;
-    }
-    s[0] == b'-'
+    None
 }
 
 // What a run of bytes writes, if it is from −below to most.
-pub fn read_number(s: &[u8], below: u64, most: u64) -> Number
-    ensures { value_number result ≡ within (neg_ℤ (pos below)) (pos most) (integer_of s.now) }
+pub fn read_number(s: &[u8], below: u64, most: u64) -> Option<i128>
+    ensures { result ≡ within (neg_ℤ (pos below)) (pos most) (integer_of s.now) }
 {
-    if has_sign(s) {
-        return read_negative(s, below);
-    }
-    match read_digits(s, 0) {
-        Digits::Value(n) => {
-            if n <= most {
-                Number::Natural(n)
-            } else {
-                Number::Bad
-            }
+    if let Some(digits) = behind_sign(s) {
+        let n = read_digits(digits)?;
+        if below < n {
+            return None;
         }
-        Digits::Bad => Number::Bad,
+        return Some(-(n as i128));
     }
-}
-
-// What field k writes.
-fn field_number(line: &[u8], fields: Fields, k: usize, below: u64, most: u64) -> Number
-    ensures { value_number result ≡ within (neg_ℤ (pos below)) (pos most) (integer_of (field_in line.now fields k)) }
-{
-    read_number(field_in(line, fields, k), below, most)
-}
-
-pub fn signed_16(line: &[u8], fields: Fields, k: usize) -> Signed16
-    ensures { value16 result ≡ signed w16 (field_in line.now fields k) }
-{
-    match field_number(line, fields, k, 0x8000, 0x7fff) {
-        Number::Natural(n) => Signed16::Is(n as i16),
-        Number::Negative(n) => Signed16::Is(!(n as i16)),
-        Number::Bad => Signed16::Bad,
+    let n = read_digits(s)?;
+    if most < n {
+        return None;
     }
-}
-
-pub fn signed_32(line: &[u8], fields: Fields, k: usize) -> Signed32
-    ensures { value32 result ≡ signed w32 (field_in line.now fields k) }
-{
-    match field_number(line, fields, k, 0x8000_0000, 0x7fff_ffff) {
-        Number::Natural(n) => Signed32::Is(n as i32),
-        Number::Negative(n) => Signed32::Is(!(n as i32)),
-        Number::Bad => Signed32::Bad,
-    }
-}
-
-pub fn signed_64(line: &[u8], fields: Fields, k: usize) -> Signed64
-    ensures { value64 result ≡ signed w64 (field_in line.now fields k) }
-{
-    match field_number(
-        line,
-        fields,
-        k,
-        0x8000_0000_0000_0000,
-        0x7fff_ffff_ffff_ffff,
-    ) {
-        Number::Natural(n) => Signed64::Is(n as i64),
-        Number::Negative(n) => Signed64::Is(!(n as i64)),
-        Number::Bad => Signed64::Bad,
-    }
-}
-
-pub fn unsigned_64(line: &[u8], fields: Fields, k: usize) -> Unsigned64
-    ensures { value_unsigned result ≡ unsigned (field_in line.now fields k) }
-{
-    match field_number(line, fields, k, 0, u64::MAX) {
-        Number::Natural(n) => Unsigned64::Is(n),
-        Number::Negative(_) => Unsigned64::Bad,
-        Number::Bad => Unsigned64::Bad,
-    }
+    Some(n as i128)
 }

@@ -1,56 +1,54 @@
 -- `fields::read_digits` meets its contract.
-use mathlib.Core.Path.{refl, sym, ◌∙◌}
+use Prim.Native.Nat.{◌+◌, ◌-◌, ◌*◌}
+use Prim.Native.Char.{code}
+use mathlib.Core.Path.{◌≡◌, sym, ◌∙◌}
+use mathlib.Core.Bool.{false}
 use native.Mathlib.Omega.{arith}
-use Rattle.fields.proofs.Decimals.{value-more, value-above, digit-more, digit_low, digit-high, value-end, digits-end, digits-none, digits-bad, digits-large, digits_value}
+use lib.Dec.{eqb}
+use lib.ListN.{length, get_or}
+use Rattle.fields.proofs.Decimals.{value-more, value-above, digit-more, digit-none, value-end, digits-end, digits-none, digits-bad, digits-large, digits_value}
 use Rattle.fields.proofs.read_digits.Goals as goal
+use Rattle.fields.proofs.read_digits.Goals.{Else-is_empty}
 
-pub returns-then-s-at : goal.returns-then-s-at
-returns-then-s-at c = digits-none c.args.s.now c.args.at c.if-s-at.true
+filled : (c : Else-is_empty) → eqb (length c.args.s.now) 0 ≡ false
+filled c = sym c.is_empty.ensures ∙ c.if-is_empty.false
 
-pub loop-i-init : goal.loop-i-init
-loop-i-init c = (omega arith, omega arith, omega arith, refl, refl)
+pub returns-then-is_empty : goal.returns-then-is_empty
+returns-then-is_empty c = digits-none c.args.s.now (sym c.is_empty.ensures ∙ c.if-is_empty.true)
 
-pub bounds-s-i : goal.bounds-s-i
-bounds-s-i c = omega arith
-
-pub returns-then-b-lt48 : goal.returns-then-b-lt48
-returns-then-b-lt48 c =
+pub returns-then-not-is_ascii_digit : goal.returns-then-not-is_ascii_digit
+returns-then-not-is_ascii_digit c =
     let s = c.args.s.now in
-    let at = c.args.at in
-    digits-bad s at c.loop-i.invariant.0 (sym c.loop-i.invariant.4 ∙ digit_low s c.loop-i.i (omega arith) c.if-b-lt48.true)
+    digits-bad s (filled (goal.at.returns-then-not-is_ascii_digit c).Else-is_empty)
+    (sym c.loop-b.invariant.2 ∙ digit-none s c.loop-b.b-index c.loop-b-test.true (sym c.is_ascii_digit.ensures.value ∙ c.if-not-is_ascii_digit.true))
 
-pub returns-then-b-gt57 : goal.returns-then-b-gt57
-returns-then-b-gt57 c =
+pub returns-in_err-checked_mul : goal.returns-in_err-checked_mul
+returns-in_err-checked_mul c =
     let s = c.args.s.now in
-    let at = c.args.at in
-    digits-bad s at c.loop-i.invariant.0 (sym c.loop-i.invariant.4 ∙ digit-high s c.loop-i.i (omega arith) c.if-b-lt48.false c.if-b-gt57.true)
+    c.from_residual.ensures
+    ∙ digits-large s (filled (goal.at.returns-in_err-checked_mul c).Else-is_empty)
+    (omega (arith, value-above s c.loop-b.b-index c.loop-b-test.true c.loop-b.value, c.loop-b.invariant.1, c.in_err-checked_mul.ensures {u = tt}))
 
-pub returns-then-d-value : goal.returns-then-d-value
-returns-then-d-value c =
+pub returns-in_err-value : goal.returns-in_err-value
+returns-in_err-value c =
     let s = c.args.s.now in
-    let at = c.args.at in
-    digits-large s at c.loop-i.invariant.0 (omega (arith, value-above s c.loop-i.i (omega arith) c.loop-i.value, c.loop-i.invariant.3, c.if-d-value.true))
+    c.from_residual-in_err-value.ensures
+    ∙ digits-large s (filled (goal.at.returns-in_err-value c).Else-is_empty)
+    (omega (arith, value-above s c.loop-b.b-index c.loop-b-test.true c.loop-b.value, c.loop-b.invariant.1, c.in_ok-checked_mul.ensures {u = tt}, c.in_err-value.ensures {u = tt}))
 
-pub overflow_add-i : goal.overflow_add-i
-overflow_add-i c = omega arith
-
-pub loop-i-smaller : goal.loop-i-smaller
-loop-i-smaller c = omega arith
-
-pub loop-i-preserved : goal.loop-i-preserved
-loop-i-preserved c =
+pub loop-b-preserved : goal.loop-b-preserved
+loop-b-preserved c =
     let s = c.args.s.now in
-    let at = c.args.at in (
-      omega arith,
-      omega arith,
-      omega arith,
-      sym (value-more s c.loop-i.i (omega arith) c.loop-i.value) ∙ c.loop-i.invariant.3,
-      sym (digit-more s c.loop-i.i (omega arith) c.if-b-lt48.false c.if-b-gt57.false) ∙ c.loop-i.invariant.4,
+    let i = c.loop-b.invariant in
+    let v : c.in_ok-value.value ≡ c.loop-b.value * 10 + (get_or s c.loop-b.b-index 0 - code "0") =
+    omega (arith, c.in_ok-value.ensures {u = tt}, c.in_ok-checked_mul.ensures {u = tt}) in (
+      omega (arith, c.in_ok-value.ensures {u = tt}),
+      rw v (sym (value-more s c.loop-b.b-index c.loop-b-test.true c.loop-b.value) ∙ i.1),
+      sym (digit-more s c.loop-b.b-index c.loop-b-test.true (sym c.is_ascii_digit.ensures.value ∙ c.if-not-is_ascii_digit.false)) ∙ i.2,
     )
 
 pub returns : goal.returns
 returns c =
     let s = c.args.s.now in
-    let at = c.args.at in
-    digits_value s at c.loop-i.invariant.0 (sym c.loop-i.invariant.4 ∙ digits-end s c.loop-i.i c.loop-i-test.false)
-    (sym (value-end s c.loop-i.i c.loop-i.value c.loop-i-test.false) ∙ c.loop-i.invariant.3) c.loop-i.invariant.2
+    digits_value s (filled (goal.at.returns c).Else-is_empty) (sym c.loop-b.invariant.2 ∙ digits-end s c.loop-b.b-index (omega arith))
+    (sym (value-end s c.loop-b.b-index c.loop-b.value (omega arith)) ∙ c.loop-b.invariant.1) c.loop-b.invariant.0

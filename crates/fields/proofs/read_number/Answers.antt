@@ -1,38 +1,59 @@
 -- `fields::read_number` meets its contract.
-use mathlib.Core.Path.{◌≡◌, sym, ap, ◌∙◌}
+use mathlib.Core.Path.{◌≡◌, sym, ◌∙◌}
 use native.Mathlib.Omega.{arith}
-use lib.ListN.{drop}
+use borrow.Author.Rules.{rules}
 use lib.IntN.{pos, neg_ℤ}
-use Rattle.fields.specs.Numbers.{natural_of, natural, integer_of, within}
-use Rattle.fields.proofs.Ranges.{sign-most, digits-fit, digits-past, digits-bad, integer-sign, integer-natural}
+use mir.Syntax.{w128}
+use mir.Val.{to_z, of_z}
+use lib.IntN.{◌-ℤ◌}
+use Rattle.fields.specs.Numbers.{integer_of, natural_of, negated, natural}
+use Rattle.fields.proofs.Ranges.{integer-sign, integer-natural, sign_fits, sign-past, sign-bad, digits-fit, digits-past, digits-bad}
 use Rattle.fields.proofs.read_number.Goals as goal
-use Rattle.fields.proofs.read_number.Goals.{After-read_digits}
+use Rattle.fields.proofs.read_number.Goals.{In-Some, In_default}
 
--- there is no sign
-alone : (c : After-read_digits) → let a = c.args in
-    within (neg_ℤ (pos a.below)) (pos a.most) (natural (natural_of a.s.now)) ≡ within (neg_ℤ (pos a.below)) (pos a.most) (integer_of a.s.now)
-alone c =
-    let a = c.args in
-    ap (within (neg_ℤ (pos a.below)) (pos a.most)) (sym (integer-natural a.s.now (sym c.has_sign.ensures ∙ c.if-has_sign.false)))
+-- behind a sign, and without one
+behind : (c : In-Some) → integer_of c.args.s.now ≡ negated (natural_of c.in-Some.digits.now)
+behind c = let e = c.in-Some.ensures {u = tt} in rw e.1 (integer-sign c.args.s.now e.0)
 
-pub returns-then-has_sign : goal.returns-then-has_sign
-returns-then-has_sign c =
-    let a = c.args in
-    c.read_negative.ensures
-    ∙ sign-most a.below 0 (natural_of (drop 1 a.s.now)) a.most
-    ∙ ap (within (neg_ℤ (pos a.below)) (pos a.most)) (sym (integer-sign a.s.now (sym c.has_sign.ensures ∙ c.if-has_sign.true)))
+alone : (c : In_default) → integer_of c.args.s.now ≡ natural (natural_of c.args.s.now)
+alone c = integer-natural c.args.s.now (c.in_default.ensures {u = tt})
 
-pub returns-then-n-most : goal.returns-then-n-most
-returns-then-n-most c =
+pub returns-in_err-n : goal.returns-in_err-n
+returns-in_err-n c =
     let a = c.args in
-    digits-fit a.below a.most (natural_of a.s.now) (sym c.read_digits.ensures ∙ c.in-Value.is) c.if-n-most.true ∙ alone (goal.at.returns-then-n-most c).After-read_digits
+    rw (behind (goal.at.returns-in_err-n c).In-Some)
+    (c.from_residual.ensures ∙ sign-bad a.below a.most (natural_of c.in-Some.digits.now) (omega arith) (sym c.read_digits.ensures ∙ c.in_err-n.was {u = tt}))
 
-pub returns-else-n-most : goal.returns-else-n-most
-returns-else-n-most c =
+pub returns-then-below-n : goal.returns-then-below-n
+returns-then-below-n c =
     let a = c.args in
-    digits-past a.below a.most (natural_of a.s.now) (sym c.read_digits.ensures ∙ c.in-Value.is) c.if-n-most.false ∙ alone (goal.at.returns-else-n-most c).After-read_digits
+    rw (behind (goal.at.returns-then-below-n c).In-Some)
+    (sign-past a.below a.most (natural_of c.in-Some.digits.now) (sym c.read_digits.ensures ∙ c.in_ok-n.was {u = tt}) c.if-below-n.true)
 
-pub returns-in-Bad : goal.returns-in-Bad
-returns-in-Bad c =
+pub returns-in-Some : goal.returns-in-Some
+returns-in-Some c =
     let a = c.args in
-    digits-bad a.below a.most (natural_of a.s.now) (omega arith) (sym c.read_digits.ensures ∙ c.in-Bad.is) ∙ alone (goal.at.returns-in-Bad c).After-read_digits
+    let n = c.in_ok-n.n in
+    let z : to_z w128 (of_z w128 (pos 0 -ℤ to_z w128 n)) ≡ neg_ℤ (pos n) = search rules in
+    rw (behind (goal.at.returns-in-Some c).In-Some, z)
+    (sign_fits a.below a.most (natural_of c.in-Some.digits.now) (sym c.read_digits.ensures ∙ c.in_ok-n.was {u = tt}) c.if-below-n.false)
+
+pub returns-in_err-n-2 : goal.returns-in_err-n-2
+returns-in_err-n-2 c =
+    let a = c.args in
+    rw (alone (goal.at.returns-in_err-n-2 c).In_default)
+    (c.from_residual-in_err-n-2.ensures ∙ digits-bad a.below a.most (natural_of a.s.now) (omega arith) (sym c.read_digits-2.ensures ∙ c.in_err-n-2.was {u = tt}))
+
+pub returns-then-most-n : goal.returns-then-most-n
+returns-then-most-n c =
+    let a = c.args in
+    rw (alone (goal.at.returns-then-most-n c).In_default)
+    (digits-past a.below a.most (natural_of a.s.now) (sym c.read_digits-2.ensures ∙ c.in_ok-n-2.was {u = tt}) c.if-most-n.true)
+
+pub returns : goal.returns
+returns c =
+    let a = c.args in
+    let n = c.in_ok-n-2.n in
+    let z : to_z w128 n ≡ pos n = search rules in
+    rw (alone (goal.at.returns c).In_default, z)
+    (digits-fit a.below a.most (natural_of a.s.now) (sym c.read_digits-2.ensures ∙ c.in_ok-n-2.was {u = tt}) c.if-most-n.false)

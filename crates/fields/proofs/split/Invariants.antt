@@ -1,5 +1,5 @@
 -- `fields::split`: what its loops keep.
-use Prim.Native.Nat.{◌-◌, ◌≤◌, ◌<◌}
+use Prim.Native.Nat.{◌≤◌, ◌<◌}
 use mathlib.Core.Path.{◌≡◌}
 use lib.ListN.{length}
 use Rattle.fields.specs.Limits.{fields_max}
@@ -7,7 +7,4 @@ use Rattle.fields.proofs.Splitting.{Passed}
 use Rattle.fields.proofs.split.Given as goal
 
 abbrev pub invariant-loop-i : goal.invariant-loop-i
-invariant-loop-i l = (l.i ≤ length l.line) × (l.from ≤ l.i) × (l.count < fields_max) × (length l.parts ≡ fields_max) × Passed l.line l.parts l.count l.from l.i
-
-abbrev pub decreases-loop-i : goal.decreases-loop-i
-decreases-loop-i l = length l.line - l.i
+invariant-loop-i l = (l.from ≤ l.i) × (l.count < fields_max) × (length l.parts ≡ fields_max) × Passed l.line l.parts l.count l.from l.i
