@@ -7,7 +7,7 @@ use answers::{Answer, InitAnswer, OpenAnswer, OrderAnswer, ProduceAnswer, ReadAn
 use coordinator::Coordinator;
 use partition::Partition;
 use std::io;
-pub use stores::{show_log, show_words, write_catalogue, write_log};
+pub use stores::{obeyed, show_log, show_words, write_catalogue, write_log};
 
 pub fn bytes(rt: &impl Print, run: &[u8]) -> io::Result<()> {
     rt.write_all(run)
@@ -51,15 +51,11 @@ fn refused(rt: &impl Print, number: u8) -> io::Result<()> {
     natural(rt, number as u64)
 }
 
-fn wide(b: u8) -> u64 {
-    b as u64
-}
-
 // Bytes in hexadecimal, behind one tab.
 pub fn hexadecimal(rt: &impl Print, run: &[u8]) -> io::Result<()> {
     bytes(rt, b"\t")?;
     for b in run {
-        print!(rt; "{:02x}", wide(*b))?;
+        print!(rt; "{b:02x}")?;
     }
     Ok(())
 }

@@ -1,104 +1,78 @@
 // The lines that write or show the stores: the catalogue's text, the bytes of the log, the words of a partition.
 use crate::{end_line, hexadecimal, unknown, word, words};
+use arrayvec::ArrayVec;
+use call_lines::{field, number};
 use std::io;
 
 // A catalogue's byte: `:` stands for a tab and `,` for a line feed.
 fn text_byte(b: u8) -> u8 {
-    if b == b':' {
-        return b'\t';
+    match b {
+        b':' => b'\t',
+        b',' => b'\n',
+        _ => b,
     }
-    if b == b',' {
-        return b'\n';
-    }
-    b
 }
 
-// Writes a catalogue's text to the front of its store, and says whether it fits.
-fn write_text(store: &mut [u8], run: &[u8]) -> bool {
-    if store.len() < run.len() {
-        return false;
+// The catalogue's text that a run stands for, if there is room for it.
+fn text_of<const N: usize>(run: &[u8]) -> Option<ArrayVec<u8, N>> {
+    let mut text = ArrayVec::try_from(run).ok()?;
+    for b in &mut text {
+        *b = text_byte(*b);
     }
-    let mut i: usize = 0;
-    while i < run.len() {
-        store[i] = text_byte(run[i]);
-        i += 1;
-    }
-    true
+    Some(text)
 }
 
 // Writes the word of a line that was obeyed, or `?` for one that was not.
-fn obeyed(rt: &impl Print, line: &[u8], was: bool) -> io::Result<()> {
-    if was {
-        word(rt, line)?;
-        return end_line(rt);
+pub fn obeyed(rt: &impl Print, line: &[u8], done: Option<()>) -> io::Result<()> {
+    if done.is_none() {
+        return unknown(rt);
     }
-    unknown(rt)
+    word(rt, line)?;
+    end_line(rt)
 }
 
-// `catalogue TEXT`: the length of the text, or the one before if it does not fit.
-pub fn write_catalogue(
+// `catalogue TEXT`: another text; the one before stays if it does not fit.
+pub fn write_catalogue<const N: usize>(
     rt: &impl Print,
-    length: usize,
     line: &[u8],
-    store: &mut [u8],
-) -> io::Result<usize> {
-    let run = call_lines::field(line, 1);
-    let fits = write_text(store, run);
-    obeyed(rt, line, fits)?;
-    Ok(if fits { run.len() } else { length })
+    text: &mut ArrayVec<u8, N>,
+) -> io::Result<()> {
+    let written = text_of(field(line, 1)).map(|new| *text = new);
+    obeyed(rt, line, written)
 }
 
-// Writes bytes of two digits each from a place on, and says whether they fit.
-fn write_digits(log: &mut [u8], at: usize, digits: &[u8]) -> bool {
-    let n = digits.len() / 2;
-    if log.len() < at {
-        return false;
-    }
-    if log.len() - at < n {
-        return false;
-    }
-    let mut i: usize = 0;
-    while i < n {
-        log[at + i] = call_lines::byte_of(digits[2 * i], digits[2 * i + 1]);
-        i += 1;
-    }
-    true
+// Writes bytes of two digits each from a place on, if they fit.
+fn write_digits(log: &mut [u8], at: usize, digits: &[u8]) -> Option<()> {
+    let place = log.get_mut(at..)?.get_mut(..digits.len() / 2)?;
+    hex::decode_to_slice(digits, place).ok()
 }
 
 // `bytes AT HEX`
 pub fn write_log(rt: &impl Print, line: &[u8], log: &mut [u8]) -> io::Result<()> {
-    let at = call_lines::place(line, 1);
-    obeyed(rt, line, write_digits(log, at, call_lines::field(line, 2)))
+    obeyed(rt, line, write_digits(log, number(line, 1), field(line, 2)))
+}
+
+// So many items of a store from a place on, if it has them.
+fn part_of<T>(store: &[T], from: usize, count: usize) -> Option<&[T]> {
+    store.get(from..)?.get(..count)
 }
 
 // `log FROM COUNT`
 pub fn show_log(rt: &impl Print, line: &[u8], log: &[u8]) -> io::Result<()> {
-    let from = call_lines::place(line, 1);
-    let count = call_lines::place(line, 2);
-    if log.len() < from {
+    let Some(shown) = part_of(log, number(line, 1), number(line, 2)) else {
         return unknown(rt);
-    }
-    if log.len() - from < count {
-        return unknown(rt);
-    }
-    let end = from + count;
+    };
     word(rt, line)?;
-    hexadecimal(rt, &log[from..end])?;
+    hexadecimal(rt, shown)?;
     end_line(rt)
 }
 
 // `words INDEX FROM COUNT`, of the words of that partition.
 pub fn show_words(rt: &impl Print, line: &[u8], store: &[u64]) -> io::Result<()> {
-    let from = call_lines::place(line, 2);
-    let count = call_lines::place(line, 3);
-    if store.len() < from {
+    let Some(shown) = part_of(store, number(line, 2), number(line, 3)) else {
         return unknown(rt);
-    }
-    if store.len() - from < count {
-        return unknown(rt);
-    }
-    let end = from + count;
+    };
     word(rt, line)?;
-    words(rt, &store[from..end])?;
+    words(rt, shown)?;
     end_line(rt)
 }

@@ -1,10 +1,8 @@
 // The lines of a call script: the fields of a line, the numbers that they write, and which line it is by its word and the kinds of its fields.
 #![tactic(auto)]
 
-ghost use Rattle.std.specs.Prelude.{◌≤◌, ◌<◌, ◌≤ℤ◌, length};
-
 // Which line it is.
-#[derive(Clone, Copy)]
+#[derive(Clone, Copy, Debug, PartialEq, Eq)]
 pub enum Kind {
     Blank,
     Catalogue,
@@ -28,264 +26,110 @@ pub enum Kind {
     Unknown,
 }
 
-// ---- Fields, parted by one space each. The first is the word.
-
-// The place behind the k-th space, or the end of the line.
-fn start_of(line: &[u8], k: usize) -> usize
-    ensures { result ≤ length line.now }
-{
-    let mut left = k;
-    let mut i: usize = 0;
-    while i < line.len() {
-        if left == 0 {
-            return i;
-        }
-        if line[i] == b' ' {
-            left -= 1;
-        }
-        i += 1;
-    }
-    i
+// What a field writes: a number of this type, bytes of two small hexadecimal digits each, or any text.
+#[derive(Clone, Copy, Debug, PartialEq, Eq)]
+enum FieldKind {
+    I16,
+    I32,
+    I64,
+    U64,
+    Hexadecimal,
+    Text,
 }
 
-// The next space from a place on, or the end of the line. Only for a place within the line.
-fn end_of(line: &[u8], from: usize) -> usize
-    requires { from ≤ length line.now }
-    ensures { (from ≤ result) × (result ≤ length line.now) }
-{
-    let mut i = from;
-    while i < line.len() {
-        if line[i] == b' ' {
-            return i;
-        }
-        i += 1;
-    }
-    i
-}
+use FieldKind::{Hexadecimal, I16, I32, I64, Text, U64};
 
-// The k-th field, which is empty past the last.
+// The word of each line, the fields behind it, and which line it is. A call of the coordinator says first how many bytes it is lent, but for flush and order;
+// a call of a partition begins with an index and how many words are lent.
+const LINES: [(&[u8], &[FieldKind], Kind); 18] = [
+    (b"open", &[U64, U64, I32, I64, I64], Kind::Open),
+    (b"tick", &[U64, I64], Kind::Tick),
+    (b"flush", &[U64], Kind::Flush),
+    (b"order", &[U64], Kind::Order),
+    (b"init", &[U64, Text, I32, I64], Kind::Init),
+    (b"add", &[U64, Text, I64, I16, U64, I64], Kind::Add),
+    (b"end", &[U64, Text, I64, I16, U64, I64], Kind::End),
+    (b"ack", &[U64, U64, I64, I16, U64], Kind::Ack),
+    (b"catalogue", &[Text], Kind::Catalogue),
+    (b"bytes", &[U64, Hexadecimal], Kind::Bytes),
+    (b"log", &[U64, U64], Kind::Log),
+    (b"words", &[U64, U64, U64], Kind::Words),
+    (b"epoch", &[U64, I16], Kind::Epoch),
+    (b"sequence", &[U64, U64, I32], Kind::Sequence),
+    (b"partition", &[U64, U64], Kind::Partition),
+    (
+        b"produce",
+        &[U64, U64, Text, I64, I16, U64, I32, U64],
+        Kind::Produce,
+    ),
+    (
+        b"marker",
+        &[U64, U64, U64, I64, I16, U64, I32],
+        Kind::Marker,
+    ),
+    (b"read", &[U64, U64, U64, U64], Kind::Read),
+];
+
+// The k-th field, which is empty past the last. Fields are parted by one space each; the first is the word.
 pub fn field(line: &[u8], k: usize) -> &[u8] {
-    let from = start_of(line, k);
-    let end = end_of(line, from);
-    &line[from..end]
+    line.split(|b| *b == b' ').nth(k).unwrap_or(b"")
 }
 
-// How many spaces a line has.
-fn spaces(line: &[u8]) -> usize {
-    let mut n: usize = 0;
-    let mut i: usize = 0;
-    while i < line.len() {
-        if line[i] == b' ' {
-            n += 1;
-        }
-        i += 1;
-    }
-    n
-}
-
-// ---- Numbers.
-
-// What a run of bytes writes, if 64 bits and a sign hold it.
-fn number(s: &[u8]) -> Option<i128> {
-    fields::read_number(s, u64::MAX, u64::MAX)
-}
-
-// Whether a run writes a number from −below to most.
-fn within(s: &[u8], below: u64, most: u64) -> bool {
-    fields::read_number(s, below, most).is_some()
-}
-
-// The number of field k, 0 if it writes none; one past its type becomes the nearest.
-pub fn unsigned(line: &[u8], k: usize) -> u64 {
-    match number(field(line, k)) {
-        Some(n) => u64::try_from(n).unwrap_or(0),
-        None => 0,
-    }
-}
-
-pub fn place(line: &[u8], k: usize) -> usize {
-    unsigned(line, k) as usize
-}
-
-// The number of field k between two limits, 0 if it writes none.
-fn between(line: &[u8], k: usize, low: i64, high: i64) -> i64
-    requires { low ≤ℤ high }
-    ensures { (low ≤ℤ result) × (result ≤ℤ high) }
+// The number that a run of bytes writes in decimal, if its type holds it. The only sign is `-`, also before 0.
+fn parsed<T: TryFrom<i128>>(run: &[u8]) -> Option<T>
+where
+    T::Error: Drop,
 {
-    let n = number(field(line, k)).unwrap_or(0);
-    n.clamp(i128::from(low), i128::from(high)) as i64
+    if run.starts_with(b"+") {
+        return None;
+    }
+    let number: i128 = str::from_utf8(run).ok()?.parse().ok()?;
+    T::try_from(number).ok()
 }
 
-pub fn signed_16(line: &[u8], k: usize) -> i16 {
-    between(line, k, -0x8000, 0x7fff) as i16
-}
-
-pub fn signed_32(line: &[u8], k: usize) -> i32 {
-    between(line, k, -0x8000_0000, 0x7fff_ffff) as i32
-}
-
-pub fn signed_64(line: &[u8], k: usize) -> i64 {
-    between(line, k, i64::MIN, i64::MAX)
-}
-
-// ---- Bytes in hexadecimal, with small letters.
-
-fn is_hex(b: u8) -> bool {
-    (b'0' <= b && b <= b'9') || (b'a' <= b && b <= b'f')
-}
-
-// What a digit stands for; 0 for a byte that is none.
-fn hex_value(b: u8) -> u8
-    ensures { result < 16 }
+// The number of field k, or 0 where it writes none of this type.
+pub fn number<T: TryFrom<i128> + Default>(line: &[u8], k: usize) -> T
+where
+    T::Error: Drop,
 {
-    if b < b'0' {
-        return 0;
-    }
-    if b <= b'9' {
-        return b - b'0';
-    }
-    if b < b'a' {
-        return 0;
-    }
-    if b <= b'f' {
-        return b - b'a' + 10;
-    }
-    0
+    parsed(field(line, k)).unwrap_or_default()
 }
 
-// The byte of two digits.
-pub fn byte_of(high: u8, low: u8) -> u8 {
-    hex_value(high) * 16 + hex_value(low)
+// Whether a run is bytes of two small hexadecimal digits each.
+fn is_bytes(run: &[u8]) -> bool {
+    run.len() % 2 == 0 && run.iter().all(|b| matches!(b, b'0'..=b'9' | b'a'..=b'f'))
 }
 
-// Whether a run is bytes of two digits each.
-fn is_bytes(s: &[u8]) -> bool {
-    let mut i: usize = 0;
-    while i < s.len() {
-        if !is_hex(s[i]) {
-            return false;
-        }
-        i += 1;
-    }
-    i % 2 == 0
-}
-
-// ---- Lines.
-
-// Whether a field is of a kind: `s`, `i` and `l` are signed numbers of 16, 32 and 64 bits, `u` is an unsigned one, `x` hexadecimal, `t` any bytes.
-fn is_kind(s: &[u8], kind: u8) -> bool {
+// Whether a run is a field of this kind.
+fn is_field(run: &[u8], kind: FieldKind) -> bool {
     match kind {
-        b's' => within(s, 0x8000, 0x7fff),
-        b'i' => within(s, 0x8000_0000, 0x7fff_ffff),
-        b'l' => within(s, 0x8000_0000_0000_0000, 0x7fff_ffff_ffff_ffff),
-        b'u' => within(s, 0, u64::MAX),
-        b'x' => is_bytes(s),
-        _ => true,
+        I16 => parsed::<i16>(run).is_some(),
+        I32 => parsed::<i32>(run).is_some(),
+        I64 => parsed::<i64>(run).is_some(),
+        U64 => parsed::<u64>(run).is_some(),
+        Hexadecimal => is_bytes(run),
+        Text => true,
     }
 }
 
 // Whether a line is this word and one field of each of these kinds.
-fn is_line(line: &[u8], word: &[u8], kinds: &[u8]) -> bool {
-    if field(line, 0) != word {
-        return false;
-    }
-    let mut k: usize = 0;
-    while k < kinds.len() {
-        let kind = kinds[k];
-        k += 1;
-        if !is_kind(field(line, k), kind) {
-            return false;
-        }
-    }
-    spaces(line) == k
-}
-
-// A line with a call of a partition, whose first fields are an index and how many words are lent.
-fn partition_kind(line: &[u8]) -> Kind {
-    if is_line(line, b"partition", b"uu") {
-        return Kind::Partition;
-    }
-    if is_line(line, b"produce", b"uutlsuiu") {
-        return Kind::Produce;
-    }
-    if is_line(line, b"marker", b"uuulsui") {
-        return Kind::Marker;
-    }
-    if is_line(line, b"read", b"uuuu") {
-        return Kind::Read;
-    }
-    Kind::Unknown
-}
-
-// A line that changes what a state holds.
-fn state_kind(line: &[u8]) -> Kind {
-    if is_line(line, b"epoch", b"us") {
-        return Kind::Epoch;
-    }
-    if is_line(line, b"sequence", b"uui") {
-        return Kind::Sequence;
-    }
-    partition_kind(line)
-}
-
-// A line that writes or shows a store.
-fn store_kind(line: &[u8]) -> Kind {
-    if is_line(line, b"catalogue", b"t") {
-        return Kind::Catalogue;
-    }
-    if is_line(line, b"bytes", b"ux") {
-        return Kind::Bytes;
-    }
-    if is_line(line, b"log", b"uu") {
-        return Kind::Log;
-    }
-    if is_line(line, b"words", b"uuu") {
-        return Kind::Words;
-    }
-    state_kind(line)
-}
-
-// A line with a call of a producer, or with Ack.
-fn producer_kind(line: &[u8]) -> Kind {
-    if is_line(line, b"init", b"util") {
-        return Kind::Init;
-    }
-    if is_line(line, b"add", b"utlsul") {
-        return Kind::Add;
-    }
-    if is_line(line, b"end", b"utlsul") {
-        return Kind::End;
-    }
-    if is_line(line, b"ack", b"uulsu") {
-        return Kind::Ack;
-    }
-    store_kind(line)
-}
-
-// A line with a call of the coordinator. The first field says how many bytes are lent, but for flush and order.
-fn coordinator_kind(line: &[u8]) -> Kind {
-    if is_line(line, b"open", b"uuill") {
-        return Kind::Open;
-    }
-    if is_line(line, b"tick", b"ul") {
-        return Kind::Tick;
-    }
-    if is_line(line, b"flush", b"u") {
-        return Kind::Flush;
-    }
-    if is_line(line, b"order", b"u") {
-        return Kind::Order;
-    }
-    producer_kind(line)
+fn is_line(line: &[u8], word: &[u8], kinds: &[FieldKind]) -> bool {
+    field(line, 0) == word
+        && line.split(|b| *b == b' ').count() == 1 + kinds.len()
+        && line
+            .split(|b| *b == b' ')
+            .skip(1)
+            .zip(kinds)
+            .all(|(run, kind)| is_field(run, *kind))
 }
 
 // Which line it is, whatever its bytes; an empty one and a comment are blank.
 pub fn kind_of(line: &[u8]) -> Kind {
-    if line.len() == 0 {
+    if line.is_empty() || line.starts_with(b"#") {
         return Kind::Blank;
     }
-    if line[0] == b'#' {
-        return Kind::Blank;
-    }
-    coordinator_kind(line)
+    LINES
+        .iter()
+        .find(|(word, kinds, _)| is_line(line, word, kinds))
+        .map_or(Kind::Unknown, |(_, _, kind)| *kind)
 }

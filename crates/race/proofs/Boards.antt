@@ -3,8 +3,7 @@ use mathlib.Core.Path.{◌≡◌, refl}
 use mathlib.Core.Bool.{cond}
 use mathlib.Core.List.{map}
 use Rattle.search.specs.Search.{all, find}
-use Rattle.race.specs.declared.RaceAnswer.TheVariants.{Forced, NotForced}
-use Rattle.race.specs.Search.{can_serve, can_force, race_answer}
+use Rattle.race.specs.Search.{can_serve, can_force, Forced, NotForced, race_answer}
 use Rattle.race.specs.Examples.{Answered, answered, small_boards, other_boards, every_move, forced_by_every_move, Served, served, endings, served_by_every_move}
 
 -- the search

@@ -1,6 +1,7 @@
 -- Laws of the search: what a round of it says.
 use Prim.Native.Nat.{ℕ, zero, suc, ◌-◌}
 use mathlib.Core.Path.{◌≡◌, refl}
+use mathlib.Core.Logic.{◌⊎◌, inl, inr}
 use mathlib.Core.Bool.{true, false, ◌&&◌, ◌||◌}
 use native.Mathlib.Omega.{arith}
 use lib.Dec.{eqb}
@@ -27,15 +28,11 @@ unfolding can_serve
 serve-round zero left blocks n e = absurd (e refl)
 serve-round (suc rounds) left blocks n e = rw (ne_eqb left 0 n, down rounds)
 
-pub force-late : (rounds until left blocks : ℕ) → rounds ≡ 0 → can_force rounds until left blocks ≡ false
+pub force-over : (rounds until left blocks : ℕ) → ((rounds ≡ 0 → ⊥) × (until ≡ 0)) ⊎ (rounds ≡ 0) → can_force rounds until left blocks ≡ false
 unfolding can_force
-force-late zero until left blocks e = refl
-force-late (suc rounds) until left blocks e = absurd (omega arith)
-
-pub force-aborted : (rounds until left blocks : ℕ) → until ≡ 0 → can_force rounds until left blocks ≡ false
-unfolding can_force
-force-aborted zero until left blocks e = refl
-force-aborted (suc rounds) until left blocks e = rw (le-ltb 0 until (omega arith))
+force-over zero until left blocks e = refl
+force-over (suc rounds) until left blocks (inl e) = rw (le-ltb 0 until (omega (arith, e.1)))
+force-over (suc rounds) until left blocks (inr e) = absurd (omega arith)
 
 pub force-round : (rounds until left blocks : ℕ) → (rounds ≡ 0 → ⊥) → (until ≡ 0 → ⊥)
     → can_force rounds until left blocks

@@ -2,8 +2,7 @@
 use Rattle.std.specs.Prelude.{ℕ, zero, suc, Bool, true, false, not, ◌&&◌, ◌||◌, List, [], ◌∷◌, reverse}
 use Rattle.search.specs.Search.{all, find, is_found}
 use Rattle.race.specs.declared.Board.{Board}
-use Rattle.race.specs.declared.RaceAnswer.{RaceAnswer}
-use Rattle.race.specs.declared.RaceAnswer.TheVariants.{Forced, NotForced, Refused}
+use Rattle.race.specs.Search.{RaceAnswer, Forced, NotForced, Refused}
 use Rattle.race.specs.Game.{completed, LineMove, no_block, block_log, block_partition, BenchMove, end, carry, wait, line_may, Round, position, legal}
 
 abbrev pub board : ℕ → ℕ → ℕ → ℕ → Board

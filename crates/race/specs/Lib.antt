@@ -2,4 +2,5 @@
 pub mod Limits
 pub mod Game
 pub mod Search
+pub mod Results
 pub mod Examples

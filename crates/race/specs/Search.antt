@@ -2,8 +2,6 @@
 use Rattle.std.specs.Prelude.{ℕ, zero, suc, ◌-◌, Bool, false, cond, ◌&&◌, ◌||◌, eqb, ltb, leb}
 use Rattle.race.specs.Limits.{partitions_max, count_max, invalid_board}
 use Rattle.race.specs.declared.Board.{Board}
-use Rattle.race.specs.declared.RaceAnswer.{RaceAnswer}
-use Rattle.race.specs.declared.RaceAnswer.TheVariants.{Forced, NotForced, Refused}
 
 -- The search leaves out moves that help neither side: a block on the log once ended, a block on a partition before that, and a bench that waits though it can end or carry.
 -- That nothing is lost by this is the law WhoWins of the crate race_strategies, which speaks of every play.
@@ -32,6 +30,12 @@ inside board =
     && leb board.timeout count_max
     && leb board.rounds count_max
     && leb board.blocks count_max
+
+-- whether the bench can force a completed commit; or the board is refused with a number
+pub data RaceAnswer : Type 0 where
+  Forced : RaceAnswer
+  NotForced : RaceAnswer
+  Refused : ℕ → RaceAnswer
 
 -- "The answer says whether the bench can force a completed commit within the rounds"; "Turned away: 30, a board outside these numbers."
 abbrev pub race_answer : Board → RaceAnswer

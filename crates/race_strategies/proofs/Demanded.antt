@@ -3,10 +3,9 @@ use Prim.Native.Nat.{◌+◌, ◌≤◌, ◌<◌}
 use mathlib.Core.Path.{◌≡◌}
 use mathlib.Core.Logic.{◌⊎◌, ⊎_map}
 use Rattle.race.specs.declared.Board.{Board}
-use Rattle.race.specs.declared.RaceAnswer.TheVariants.{Forced, NotForced, Refused}
+use Rattle.race.specs.Search.{Forced, NotForced, Refused, race_answer}
 use Rattle.race.specs.Limits.{Inside}
 use Rattle.race.specs.Game.{BenchForces, LinePrevents}
-use Rattle.race.specs.Search.{race_answer}
 use Rattle.race_strategies.specs.WhoWins.{with_more_blocks, WhoWins}
 
 -- inside the limits the answer is yes and the bench can force it, or no and the line can prevent it

@@ -10,10 +10,9 @@ use lib.ListN.{length}
 use borrow.Author.Tests.{ltb-true, ltb-false, le-leb, leb-true}
 use Rattle.numbers.proofs.Tests.{either, not-both, and_left, and_right, and_both}
 use Rattle.race.specs.declared.Board.{Board}
-use Rattle.race.specs.declared.RaceAnswer.TheVariants.{Forced, NotForced, Refused}
+use Rattle.race.specs.Search.{Forced, NotForced, Refused, can_force, inside, race_answer}
 use Rattle.race.specs.Limits.{partitions_max, count_max, invalid_board, Inside}
 use Rattle.race.specs.Game.{Round, position, line_may, bench_may, legal, LinePlays, BenchPlays, LineStrategy, BenchStrategy, BenchForces, LinePrevents}
-use Rattle.race.specs.Search.{can_force, inside, race_answer}
 use Rattle.race_strategies.specs.WhoWins.{with_more_blocks, WhoWins}
 use Rattle.race_strategies.proofs.ClosedForm.{force-enough, force-needs}
 use Rattle.race_strategies.proofs.Bench.{bench-forces}

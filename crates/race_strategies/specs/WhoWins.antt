@@ -1,10 +1,9 @@
 -- What the answer to a board says of the game, as one statement.
 use Rattle.std.specs.Prelude.{ℕ, ◌+◌, ◌≤◌, ◌<◌, ◌≡◌, ◌↔◌, ◌⊎◌}
 use Rattle.race.specs.declared.Board.{Board}
-use Rattle.race.specs.declared.RaceAnswer.TheVariants.{Forced, NotForced, Refused}
+use Rattle.race.specs.Search.{Forced, NotForced, Refused, race_answer}
 use Rattle.race.specs.Limits.{invalid_board, Inside}
 use Rattle.race.specs.Game.{BenchForces, LinePrevents}
-use Rattle.race.specs.Search.{race_answer}
 
 -- the same board, with more blocks
 abbrev pub with_more_blocks : Board → ℕ → Board

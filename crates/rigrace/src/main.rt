@@ -10,11 +10,8 @@ const LINE_ROOM: usize = 65536;
 // Answers a line.
 fn answer(rt: &impl Print, line: &[u8]) -> io::Result<()> {
     let mut out = [0u8; race_lines::ANSWER_MAX];
-    let written = race_lines::respond(line, &mut out);
-    if written <= race_lines::ANSWER_MAX {
-        rt.write_all(&out[..written])?;
-    }
-    Ok(())
+    let written = race_lines::respond(line, &mut out).unwrap_or(0);
+    rt.write_all(&out[..written])
 }
 
 // Answers what was read. A line that did not fit the buffer is answered as the line `?`: it is no request.

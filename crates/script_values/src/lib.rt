@@ -2,56 +2,26 @@
 #![tactic(auto)]
 
 use coordinator::Coordinator;
-use numbers::Integer;
 use partition::Partition;
 
-// Whether an id is held at a place, and an epoch is one in which a transaction may begin.
-pub fn may_hold(c: Coordinator, place: usize, epoch: i16) -> bool {
-    if answers::PLACES <= place {
-        return false;
+// Gives the id at a place this epoch. `None`, with nothing changed, where the place holds no id, or the epoch is none in which a transaction may begin.
+pub fn set_epoch(c: &mut Coordinator, place: usize, epoch: i16) -> Option<()> {
+    let epoch = u16::try_from(epoch).ok()?;
+    let row = c.table.rows.get_mut(place)?;
+    if row::free(*row) || row::EPOCH_LAST < epoch {
+        return None;
     }
-    let rows = c.table.rows;
-    if row::free(rows[place]) {
-        return false;
-    }
-    0 <= epoch && epoch.natural() <= row::EPOCH_LAST
+    row.epoch = epoch;
+    Some(())
 }
 
-// The coordinator in which the id at a place holds this epoch.
-pub fn with_epoch(c: Coordinator, place: usize, epoch: i16) -> Coordinator {
-    if answers::PLACES <= place {
-        return c;
+// Gives the producer at a place this last sequence. `None`, with nothing changed, where the place has no producer, or the sequence is below 0.
+pub fn set_sequence(p: &mut Partition, place: usize, sequence: i32) -> Option<()> {
+    let sequence = u32::try_from(sequence).ok()?;
+    let producer = p.producers.get_mut(place)?;
+    if producer.pid == partition::NO_PID {
+        return None;
     }
-    let mut rows = c.table.rows;
-    let mut row = rows[place];
-    row.epoch = epoch.natural();
-    rows[place] = row;
-    let mut table = c.table;
-    table.rows = rows;
-    let mut u = c;
-    u.table = table;
-    u
-}
-
-// Whether a partition has a producer at a place, and a sequence is none below 0.
-pub fn may_have(p: Partition, place: usize, sequence: i32) -> bool {
-    if answers::PLACES <= place {
-        return false;
-    }
-    let producers = p.producers;
-    producers[place].pid != partition::NO_PID && 0 <= sequence
-}
-
-// The partition in which the producer at a place has this last sequence.
-pub fn with_sequence(p: Partition, place: usize, sequence: i32) -> Partition {
-    if answers::PLACES <= place {
-        return p;
-    }
-    let mut producers = p.producers;
-    let mut producer = producers[place];
-    producer.sequence = sequence.natural();
-    producers[place] = producer;
-    let mut u = p;
-    u.producers = producers;
-    u
+    producer.sequence = sequence;
+    Some(())
 }

@@ -1,37 +1,30 @@
 -- `race::can_force` meets its contract.
-use mathlib.Core.Path.{sym}
+use native.Mathlib.Omega.{arith}
 use borrow.Author.Tests.{eq-eqb, ne_eqb}
-use Rattle.race.proofs.Search.{force-late, force-aborted, force-round}
+use Rattle.race.proofs.Search.{force-over, force-round}
 use Rattle.race.proofs.+can_force.Goals as goal
-
-pub returns-then-rounds-eq0 : goal.returns-then-rounds-eq0
-returns-then-rounds-eq0 t c = let a = c.args in sym (force-late a.rounds a.until a.left a.blocks c.if-rounds-eq0.true)
-
-pub returns-then-until-eq0 : goal.returns-then-until-eq0
-returns-then-until-eq0 t c = let a = c.args in sym (force-aborted a.rounds a.until a.left a.blocks c.if-until-eq0.true)
-
-pub returns-then-not-can_serve : goal.returns-then-not-can_serve
-returns-then-not-can_serve t c =
-    let a = c.args in
-    rw (force-round a.rounds a.until a.left a.blocks c.if-rounds-eq0.false c.if-until-eq0.false, ← c.can_serve.ensures, c.if-not-can_serve.true)
+use Rattle.race.proofs.+can_force.Goals.{then-until-ne0, else-until-ne0}
 
 pub returns-then-blocks-eq0 : goal.returns-then-blocks-eq0
 returns-then-blocks-eq0 t c =
     let a = c.args in
-    rw (
-      force-round a.rounds a.until a.left a.blocks c.if-rounds-eq0.false c.if-until-eq0.false,
-      ← c.can_serve.ensures,
-      c.if-not-can_serve.false,
-      eq-eqb a.blocks 0 c.if-blocks-eq0.true,
-    )
+    elim c.if-until-ne0.branch [
+      | then-until-ne0 w ↦ rw (force-round a.rounds a.until a.left a.blocks w.if-until-ne0.true.0 w.if-until-ne0.true.1, ← w.can_serve.ensures, ← w.value-is, c.if-can_serve.true, eq-eqb a.blocks 0 c.if-blocks-eq0.true)
+      | else-until-ne0 w ↦ grind (arith, w.value-is, w.if-until-ne0.either, c.if-can_serve.true)
+    ]
 
-pub returns : goal.returns
-returns t c =
+pub returns-else-blocks-eq0 : goal.returns-else-blocks-eq0
+returns-else-blocks-eq0 t c =
     let a = c.args in
-    rw (
-      force-round a.rounds a.until a.left a.blocks c.if-rounds-eq0.false c.if-until-eq0.false,
-      ← c.can_serve.ensures,
-      c.if-not-can_serve.false,
-      ne_eqb a.blocks 0 c.if-blocks-eq0.false,
-      ← c.can_force.ensures,
-    )
+    elim c.if-until-ne0.branch [
+      | then-until-ne0 w ↦ rw (force-round a.rounds a.until a.left a.blocks w.if-until-ne0.true.0 w.if-until-ne0.true.1, ← w.can_serve.ensures, ← w.value-is, c.if-can_serve.true, ne_eqb a.blocks 0 c.if-blocks-eq0.false, ← c.can_force.ensures)
+      | else-until-ne0 w ↦ grind (arith, w.value-is, w.if-until-ne0.either, c.if-can_serve.true)
+    ]
+
+pub returns-else-can_serve : goal.returns-else-can_serve
+returns-else-can_serve t c =
+    let a = c.args in
+    elim c.if-until-ne0.branch [
+      | then-until-ne0 w ↦ rw (force-round a.rounds a.until a.left a.blocks w.if-until-ne0.true.0 w.if-until-ne0.true.1, ← w.can_serve.ensures, ← w.value-is, c.if-can_serve.false)
+      | else-until-ne0 w ↦ rw (force-over a.rounds a.until a.left a.blocks w.if-until-ne0.either, c.if-can_serve.false)
+    ]

@@ -3,22 +3,14 @@ use native.Mathlib.Omega.{arith}
 use Rattle.race_lines.proofs.Lines.{too_short, answered}
 use Rattle.race_lines.proofs.respond.Goals as goal
 
-pub returns-then-out-lt-ANSWER_MAX : goal.returns-then-out-lt-ANSWER_MAX
-returns-then-out-lt-ANSWER_MAX c =
-    let a = c.args in
-    let p = too_short a.line.now a.out.now (omega (arith, c.if-out-lt-ANSWER_MAX.true)) in
-    record {
-      answer = p.0;
-      bytes = p.1;
-      within = omega arith;
-    }
+pub returns-then-out-lt-ANSWER_MAX-clause-answer : goal.returns-then-out-lt-ANSWER_MAX-clause-answer
+returns-then-out-lt-ANSWER_MAX-clause-answer c = (too_short c.args.line.now c.args.out.now (omega (arith, c.if-out-lt-ANSWER_MAX.true))).0
 
-pub returns : goal.returns
-returns c =
-    let a = c.args in
-    let p = answered a.line.now a.out.now c.if-out-lt-ANSWER_MAX.false c.parse.ensures c.write_line.ensures.0 in
-    record {
-      answer = p.0;
-      bytes = p.1;
-      within = omega (arith, c.write_line.ensures.1, c.if-out-lt-ANSWER_MAX.false);
-    }
+pub returns-then-out-lt-ANSWER_MAX-clause-bytes : goal.returns-then-out-lt-ANSWER_MAX-clause-bytes
+returns-then-out-lt-ANSWER_MAX-clause-bytes c = (too_short c.args.line.now c.args.out.now (omega (arith, c.if-out-lt-ANSWER_MAX.true))).1
+
+pub returns-clause-answer : goal.returns-clause-answer
+returns-clause-answer c = (answered c.args.line.now c.args.out.now c.if-out-lt-ANSWER_MAX.false c.parse.ensures c.write_line.ensures.0).0
+
+pub returns-clause-bytes : goal.returns-clause-bytes
+returns-clause-bytes c = (answered c.args.line.now c.args.out.now c.if-out-lt-ANSWER_MAX.false c.parse.ensures c.write_line.ensures.0).1

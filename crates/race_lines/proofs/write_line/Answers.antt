@@ -6,16 +6,16 @@ use Rattle.race_lines.specs.Lines.{race_word, answer_fields}
 use Rattle.race_lines.proofs.Lines.{unknown-line}
 use Rattle.race_lines.proofs.write_line.Goals as goal
 
-pub returns-in-Race : goal.returns-in-Race
-returns-in-Race c =
-    let fs = answer_fields (race_answer c.in-Race.board) in
+pub returns-in-Some : goal.returns-in-Some
+returns-in-Some c =
+    let fs = answer_fields (race_answer c.in-Some.board) in
     let f = rw c.race.ensures at c.write_answer-next.ensures.0 in (
-      rw c.in-Race.is
+      rw c.in-Some.is
           (line_wrote race_word fs c.args.out.now 0 (omega (arith, length-line race_word fs, c.write_bytes-next.ensures.0, f.0, c.write_answer-next.ensures.1, c.requires))
           c.write_bytes-next.ensures f c.write_bytes.ensures),
       omega (arith, c.write_bytes.ensures.0, c.write_answer-next.ensures.1, c.write_bytes-next.ensures.0),
     )
 
-pub returns-in-Unknown : goal.returns-in-Unknown
-returns-in-Unknown c =
-    (rw (c.in-Unknown.is, unknown-line) c.write_bytes-in-Unknown.ensures, omega (arith, c.write_bytes-in-Unknown.ensures.0))
+pub returns-in-None : goal.returns-in-None
+returns-in-None c =
+    (rw (c.in-None.is, unknown-line) c.write_bytes-in-None.ensures, omega (arith, c.write_bytes-in-None.ensures.0))
