@@ -1,5 +1,5 @@
 -- What each command of the listing does: a call of the one type of call, or what document 01 makes of several.
-use Rattle.std.specs.Prelude.{ℕ, ◌+◌, ◌≡◌, cond, List, [], ◌∷◌, eqb, ltb, ℤ, pos, negsuc}
+use Rattle.std.specs.Prelude.{ℕ, ◌+◌, ◌≡◌, cond, List, [], ◌∷◌, eqb, ltb, ℤ, pos, negsuc, Result}
 use Rattle.bits.specs.Bits.{member}
 use Rattle.answers.specs.Numbers.{invalid_set, invalid_number}
 use Rattle.answers.specs.Answers.{Reply, accepted, refused}
@@ -20,7 +20,8 @@ use Rattle.fields.specs.Fields.{bytes_of}
 use Rattle.session.specs.Limits.{first_pid, last_pid, last_epoch}
 use Rattle.session.specs.Memory.{Memory, memory, index_of, server_at, with_server}
 use Rattle.session.specs.Replies.{first_payloads, reply_of}
-use Rattle.session.specs.declared.Performed.{Performed}
+use Rattle.answers.specs.declared.OpenError.{OpenError}
+use Rattle.session.specs.declared.Results.{Results}
 use Rattle.session.specs.declared.Session.{Session}
 
 -- what a command answers, and the memory that it leaves
@@ -134,18 +135,20 @@ performed_on_log Unknown line m = stays (accepted []) m
 -- ---- contracts
 
 -- what the contract of a command says: its reply, and the session and the buffers that it leaves
-abbrev pub Performs : Outcome → Performed → List ℕ → List ℕ → List ℕ → Type 0
-Performs o r log words payloads = (reply_of r.response payloads ≡ o.reply) × (memory r.session log words payloads ≡ o.memory)
+abbrev pub Performs : Outcome → Result Results OpenError → Session → List ℕ → List ℕ → List ℕ → Type 0
+Performs o response session log words payloads = (reply_of response payloads ≡ o.reply) × (memory session log words payloads ≡ o.memory)
 
 -- the same of a command that is lent only the log buffer, whatever the others are
-abbrev pub PerformsOnLog : (Memory → Outcome) → Session → List ℕ → Performed → List ℕ → Type 0
-PerformsOnLog does s log r left = (words payloads : List ℕ) → Performs (does (memory s log words payloads)) r left words payloads
+abbrev pub PerformsOnLog : (Memory → Outcome) → Session → List ℕ → Result Results OpenError → Session → List ℕ → Type 0
+PerformsOnLog does s log response session left =
+    (words payloads : List ℕ) → Performs (does (memory s log words payloads)) response session left words payloads
 
 -- only the words
-abbrev pub PerformsOnWords : (Memory → Outcome) → Session → List ℕ → Performed → List ℕ → Type 0
-PerformsOnWords does s words r left = (log payloads : List ℕ) → Performs (does (memory s log words payloads)) r log left payloads
+abbrev pub PerformsOnWords : (Memory → Outcome) → Session → List ℕ → Result Results OpenError → Session → List ℕ → Type 0
+PerformsOnWords does s words response session left =
+    (log payloads : List ℕ) → Performs (does (memory s log words payloads)) response session log left payloads
 
 -- the log buffer and the words
-abbrev pub PerformsOnBoth : (Memory → Outcome) → Session → List ℕ → List ℕ → Performed → List ℕ → List ℕ → Type 0
-PerformsOnBoth does s log words r log_left words_left =
-    (payloads : List ℕ) → Performs (does (memory s log words payloads)) r log_left words_left payloads
+abbrev pub PerformsOnBoth : (Memory → Outcome) → Session → List ℕ → List ℕ → Result Results OpenError → Session → List ℕ → List ℕ → Type 0
+PerformsOnBoth does s log words response session log_left words_left =
+    (payloads : List ℕ) → Performs (does (memory s log words payloads)) response session log_left words_left payloads

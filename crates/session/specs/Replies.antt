@@ -1,7 +1,8 @@
 -- What a response of the code is in document 01: its number, and its results as the listing has them.
-use Rattle.std.specs.Prelude.{ℕ, List, [], ◌∷◌, map, ℤ, pos, take}
-use Rattle.answers.specs.Answers.{Reply}
-use Rattle.session.specs.declared.Response.{Response}
+use Rattle.std.specs.Prelude.{ℕ, List, [], ◌∷◌, map, ℤ, pos, take, Result, Ok, Err}
+use Rattle.answers.specs.Answers.{Reply, accepted, refused}
+use Rattle.answers.specs.Returned.{open_number_of}
+use Rattle.answers.specs.declared.OpenError.{OpenError}
 use Rattle.session.specs.declared.Results.{Results}
 use Rattle.session.specs.declared.Results.TheVariants.{Nothing, Producer, Place, Offset, Carried, Payloads, Left}
 
@@ -20,5 +21,6 @@ values_of (Payloads count) payloads = first_payloads count payloads
 values_of (Left count) payloads = pos count ∷ []
 
 -- a response, with the lent payloads after the command
-abbrev pub reply_of : Response → List ℕ → Reply
-reply_of r payloads = record { number = r.number; results = values_of r.results payloads }
+abbrev pub reply_of : Result Results OpenError → List ℕ → Reply
+reply_of (Ok results) payloads = accepted (values_of results payloads)
+reply_of (Err error) payloads = refused (open_number_of error)

@@ -8,12 +8,13 @@ ghost use Rattle.server.specs.Calls.{produce_call};
 ghost use Rattle.session.specs.Memory.{memory, index_of};
 ghost use Rattle.session.specs.Commands.{called, stays, reads, performed, Performs, PerformsOnLog, PerformsOnWords};
 
+use answers::{OpenError, Refusal};
 use command::Command;
-use session::{Performed, Results, Session};
+use session::{Response, Results, Session};
 
 // `put NAME PID EPOCH POSITION SEQUENCE PAYLOAD`, at the partition of the position.
 fn put(
-    s: Session,
+    s: &mut Session,
     words: &mut [u64],
     name: &[u8],
     pid: i64,
@@ -21,16 +22,15 @@ fn put(
     position: usize,
     sequence: i32,
     payload: u64,
-) -> Performed
-    ensures { PerformsOnWords (called (produce_call name.now pid epoch position sequence payload) (index_of position)) s words.old result words.new }
+) -> Response
+    ensures { PerformsOnWords (called (produce_call name.now pid epoch position sequence payload) (index_of position)) s.old words.old result s.new words.new }
 {
     let index = session::index_of(position);
     let start = session::words_start(words.len(), index);
     let past = start + words.len() / session::PARTITIONS;
-    let c = s.coordinator;
-    let made = server::produce(
-        c,
-        session::partition_at(s, index),
+    let offset = server::produce(
+        &s.coordinator,
+        &mut s.partitions[index],
         &mut words[start..past],
         name,
         pid,
@@ -38,61 +38,36 @@ fn put(
         position,
         sequence,
         payload,
-    );
-    let answer = made.answer;
-    let state = made.state;
-    Performed {
-        response: session::produced(answer),
-        session: session::with_partition(s, index, state),
-    }
+    )?;
+    Ok(Results::Offset(offset))
 }
 
 // `read POSITION`, from offset 0.
-fn read(s: Session, words: &[u64], payloads: &mut [u64], position: usize) -> Performed
-    ensures { (log : List ℕ) → Performs (reads position (memory s log words.now payloads.old)) result log words.now payloads.new }
+fn read(s: &Session, words: &[u64], payloads: &mut [u64], position: usize) -> Response
+    ensures { (log : List ℕ) → Performs (reads position (memory s.now log words.now payloads.old)) result s.now log words.now payloads.new }
 {
-    let c = s.coordinator;
-    if !bits::member(c.catalogue.all, position) {
-        return Performed {
-            response: session::refused(answers::INVALID_SET),
-            session: s,
-        };
+    if !bits::member(s.coordinator.catalogue.all, position) {
+        return Err(OpenError::Refused(Refusal::InvalidSet));
     }
     let index = session::index_of(position);
     let start = session::words_start(words.len(), index);
     let past = start + words.len() / session::PARTITIONS;
-    let p = session::partition_at(s, index);
-    let answer = committed_reader::read(p, &words[start..past], 0, payloads);
-    Performed {
-        response: session::copied(answer),
-        session: s,
-    }
-}
-
-// `left PLACE`: how many partitions of the place's prepare are not acknowledged.
-fn left(s: Session, place: usize) -> Performed
-    ensures { (log : List ℕ) → PerformsOnLog (stays (accepted (pos (left s.coordinator place) ∷ []))) s log result log }
-{
-    let c = s.coordinator;
-    let count = completion::left(c, place);
-    Performed {
-        response: session::accepted(Results::Left(count)),
-        session: s,
-    }
+    let copied = committed_reader::read(&s.partitions[index], &words[start..past], 0, payloads)?;
+    Ok(Results::Payloads(copied.count))
 }
 
 // ---- All of them.
 
-// A command of a line: its response, and what it does to the session and the buffers.
+// A command of a line: what it answers, and what it does to the session and the buffers. `left PLACE` answers how many partitions of the place's prepare are not acknowledged.
 pub fn perform(
-    s: Session,
+    s: &mut Session,
     command: Command,
     line: &[u8],
     log: &mut [u8],
     words: &mut [u64],
     payloads: &mut [u64],
-) -> Performed
-    ensures { Performs (performed command line.now (memory s log.old words.old payloads.old)) result log.new words.new payloads.new }
+) -> Response
+    ensures { Performs (performed command line.now (memory s.old log.old words.old payloads.old)) result s.new log.new words.new payloads.new }
 {
     match command {
         Command::Put {
@@ -109,7 +84,9 @@ pub fn perform(
         }
         Command::Carry { up } => carry_command::carry(s, log, words, up),
         Command::Read { position } => read(s, words, payloads, position as usize),
-        Command::Left { place } => left(s, place as usize),
+        Command::Left { place } => {
+            Ok(Results::Left(completion::left(&s.coordinator, place as usize)))
+        }
         _ => log_commands::on_log(s, command, line, log),
     }
 }
