@@ -1,9 +1,9 @@
 -- What the code of Init makes, step by step, is what its definitions say.
-use mathlib.Core.Path.{◌≡◌, refl, sym, ap, ◌∙◌}
+use mathlib.Core.Path.{◌≡◌, refl, sym, ap, subst, ◌∙◌}
 use mathlib.Core.Bool.{Bool, true, false, cond, not, ◌&&◌}
 use mathlib.Core.List.{List}
 use Prim.Native.Nat.{ℕ, ◌+◌, ◌≤◌, ◌<◌}
-use lib.Dec.{eqb, ltb}
+use lib.Dec.{ltb}
 use lib.IntN.{ℤ, pos}
 use lib.ListN.{length}
 use mir.Syntax.{w32, w64}
@@ -22,19 +22,20 @@ use Rattle.row.specs.Row.{is_begin, is_prepare}
 use Rattle.row.specs.Steps.{initialized, prepared, fenced, raise}
 use Rattle.row.specs.declared.Row.{Row}
 use Rattle.answers.specs.Limits.{places}
-use Rattle.answers.specs.Refusals.{first_refusal, or_refuse, Decision}
+use Rattle.answers.specs.Refusals.{first_refusal, or_refuse, Decision, unless}
+use Rattle.answers.specs.Returned.{number_of}
+use Rattle.answers.specs.declared.Refusal.{Refusal}
 use Rattle.answers.specs.InitAnswer.{InitAnswer}
 use Rattle.answers.specs.InitAnswer.{Aborting, Refused}
 use Rattle.answers.proofs.Laws.{or-false-right, after_none, after_next_lem, after-all}
 use Rattle.table.specs.Table.{row_at, place_for, lowest_free, id_count}
 use Rattle.table.specs.declared.Held.{Held}
-use Rattle.coordinator.specs.Coordinator.{log_end, admits, place_of_name, row_of, holds_name, clock_at, new_pid, row_frame, log_full, Action, append, after, log_after, Performed}
-use Rattle.coordinator.specs.Change.{unless_refused, ActionPerformed}
+use Rattle.coordinator.specs.Coordinator.{log_end, admits, place_of_name, row_of, holds_name, clock_at, new_pid, row_frame, log_full, Action, keep, append, after, log_after, Performed, ActionPerformed}
 use Rattle.coordinator.specs.Init.{needs_pid, init_row, ids_then, init_row_tests, init_tests, given, aborting, init_accepted, init}
 use Rattle.coordinator.specs.declared.Coordinator.{Coordinator}
 use Rattle.coordinator.proofs.Held.{begun-place}
 use Rattle.coordinator.proofs.InitCases.{InitPassed, init-passed}
-use Rattle.coordinator.proofs.Changes.{performed-unless}
+use Rattle.coordinator.proofs.Changes.{performed-refused, performed-accepted}
 use Rattle.coordinator.proofs.Laws.{fits-tested}
 use Rattle.coordinator.specs.Named.{name_tests, FoundFor}
 use Rattle.producer_ids.specs.Parts.{init_row_with, init_at, init_answer_at}
@@ -163,10 +164,18 @@ module _ (s : Coordinator) (n : ℕ) (name : List ℕ) (timeout time : ℤ) {r :
         go true b = rw (begun-place s all name b)
         go false b = refl
 
-  pub init-performs : length s.table.rows ≡ places → {free : ℕ} → free ≡ lowest_free s.table → SFits w64 time → (log : List ℕ) {answer : InitAnswer} {left state : Coordinator} {out : List ℕ}
-      → ActionPerformed (unless_refused r (init_at held free new (clock_at s (to_z w64 (of_z w64 time))))) s log left out → answer ≡ cond (eqb r 0) (init_answer_at held.row new) (Refused r) → state ≡ left
+  -- a call that is refused leaves all as it was
+  pub init-refuses : (e : Refusal) → number_of e ≡ r → (log : List ℕ) → Performed (init s n name timeout time) s log (Refused (number_of e)) s log
+  unfolding init
+  init-refuses e is log = performed-refused (first_refusal (init_tests s n name timeout time)) Refused (init_accepted s name timeout time) s log e (is ∙ number)
+
+  -- one that is not refused does what it does
+  pub init-performs : r ≡ 0 → length s.table.rows ≡ places → {free : ℕ} → free ≡ lowest_free s.table → SFits w64 time → (log : List ℕ) {answer : InitAnswer} {state : Coordinator} {out : List ℕ}
+      → answer ≡ init_answer_at held.row new → ActionPerformed (init_at held free new (clock_at s (to_z w64 (of_z w64 time)))) s log state out
       → Performed (init s n name timeout time) s log answer state out
   unfolding init
-  init-performs all {free} f t log h a e =
-      performed-unless (first_refusal (init_tests s n name timeout time)) Refused (init_accepted s name timeout time) s log number
-      (record { answer = init_answer_at held.row new; action = init_at held free new (clock_at s (to_z w64 (of_z w64 time))) }) (λ z. decided z all f (ap (clock_at s) (to_z-of_z t))) a h e
+  init-performs z all {free} f t log {answer} {state} {out} a h =
+      let k = first_refusal (init_tests s n name timeout time) in
+      let done : Decision InitAnswer Action = record { answer = init_answer_at held.row new; action = init_at held free new (clock_at s (to_z w64 (of_z w64 time))) } in
+      subst (λ (d : Decision InitAnswer Action). Performed (unless k Refused keep d) s log answer state out) (decided z all f (ap (clock_at s) (to_z-of_z t)))
+      (rw a (performed-accepted k Refused done s log (sym z ∙ number) h))

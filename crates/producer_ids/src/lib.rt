@@ -56,6 +56,14 @@ fn init_row_with(
     row::initialized(name, row.pid, row.epoch + 1, timeout, clock)
 }
 
+// Whether a table has this place; it has as many rows as there are places, which is known only where they are read.
+fn is_place(s: &Coordinator, place: usize) -> bool
+    ensures place { result ≡ ltb place places }
+    ensures rows { length s.now.table.rows ≡ places }
+{
+    s.table.rows.get(place).is_some()
+}
+
 // The record of Init for a name whose place and row were found.
 fn init_row(
     s: &Coordinator,
@@ -64,13 +72,14 @@ fn init_row(
     timeout: i32,
     time: i64,
 ) -> Row
-    ensures { result ≡ init_row s.now name (ltb held.place places) held.row timeout time }
+    ensures row { result ≡ init_row s.now name (ltb held.place places) held.row timeout time }
+    ensures rows { length s.now.table.rows ≡ places }
 {
     let row = held.row;
     let clock = numbers::later(s.clock, time);
     init_row_with(
         name,
-        held.place < answers::PLACES,
+        is_place(s, held.place),
         row,
         new_pid(s),
         timeout,

@@ -8,4 +8,7 @@ use Rattle.producer_ids.proofs.init_row.Goals as goal
 pub returns : goal.returns
 returns c =
     let a = c.args in
-    init-row-is a.s a.name (ltb a.held.place places) a.held.row a.timeout a.time c.ranges.timeout (clock-is a.s c.ranges.time c.later-clock.ensures) c.new_pid.ensures c.init_row_with.ensures
+    record {
+      row = init-row-is a.s.now a.name (ltb a.held.place places) a.held.row a.timeout a.time c.ranges.timeout (clock-is a.s.now c.ranges.time c.later-clock.ensures) c.new_pid.ensures (rw c.is_place.ensures.place at c.init_row_with.ensures);
+      rows = c.is_place.ensures.rows;
+    }
