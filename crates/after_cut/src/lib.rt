@@ -89,7 +89,7 @@ pub fn after_cut(
 ) -> Session
     ensures { memory result log.new words.new payloads.new ≡ after_cut length (memory s log.old words.old payloads.old) }
 {
-    let kept = numbers::minus(length as u64, s.coordinator.flushed as u64);
+    let kept = (length as u64).saturating_sub(s.coordinator.flushed as u64);
     let cut = Command::Cut { kept };
     let opened = perform(s, cut, log, words, payloads);
     carry_all(opened, log, words, payloads)

@@ -74,7 +74,7 @@ pub extern "C" fn bench_calls_encode(
             timeout: 60000,
             status: Status::Begin,
             joined: set,
-            updated: numbers::signed_i64(k as u64),
+            updated: numbers::to_signed::<i64>(k as u64),
             start: 100,
         };
         if let Some(end) = encode::encode(c, r, out, 0) {

@@ -70,23 +70,23 @@ pub struct Performed {
 
 pub fn signed_16(x: u64) -> i16 {
     if x < SIGN {
-        return numbers::signed_i16(x);
+        return numbers::to_signed::<i16>(x);
     }
-    !numbers::signed_i16(!x)
+    !numbers::to_signed::<i16>(!x)
 }
 
 pub fn signed_32(x: u64) -> i32 {
     if x < SIGN {
-        return numbers::signed_i32(x);
+        return numbers::to_signed::<i32>(x);
     }
-    !numbers::signed_i32(!x)
+    !numbers::to_signed::<i32>(!x)
 }
 
 pub fn signed_64(x: u64) -> i64 {
     if x < SIGN {
-        return numbers::signed_i64(x);
+        return numbers::to_signed::<i64>(x);
     }
-    !numbers::signed_i64(!x)
+    !numbers::to_signed::<i64>(!x)
 }
 
 // ---- The calls.

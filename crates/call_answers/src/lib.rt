@@ -98,7 +98,7 @@ pub fn initialized(rt: &impl Print, answer: InitAnswer) -> io::Result<()> {
         InitAnswer::Given(pid, epoch) => {
             natural(rt, 0)?;
             signed(rt, pid)?;
-            signed(rt, numbers::wide_i16(epoch))
+            signed(rt, i64::from(epoch))
         }
         InitAnswer::Aborting => none(rt),
         InitAnswer::Refused(number) => refused(rt, number),
@@ -129,10 +129,10 @@ pub fn ordered(rt: &impl Print, answer: OrderAnswer) -> io::Result<()> {
             natural(rt, 0)?;
             natural(rt, place as u64)?;
             signed(rt, pid)?;
-            signed(rt, numbers::wide_i16(epoch))?;
+            signed(rt, i64::from(epoch))?;
             natural(rt, verdict)?;
             natural(rt, position as u64)?;
-            signed(rt, numbers::wide_i32(coordinator))
+            signed(rt, i64::from(coordinator))
         }
         OrderAnswer::NoOrder => none(rt),
     }

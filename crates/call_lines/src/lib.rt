@@ -114,24 +114,24 @@ pub fn place(line: &[u8], k: usize) -> usize {
 
 pub fn signed_16(line: &[u8], k: usize) -> i16 {
     match number(field(line, k)) {
-        Number::Natural(n) => numbers::signed_i16(n),
-        Number::Negative(n) => !numbers::signed_i16(n),
+        Number::Natural(n) => numbers::to_signed::<i16>(n),
+        Number::Negative(n) => !numbers::to_signed::<i16>(n),
         Number::Bad => 0,
     }
 }
 
 pub fn signed_32(line: &[u8], k: usize) -> i32 {
     match number(field(line, k)) {
-        Number::Natural(n) => numbers::signed_i32(n),
-        Number::Negative(n) => !numbers::signed_i32(n),
+        Number::Natural(n) => numbers::to_signed::<i32>(n),
+        Number::Negative(n) => !numbers::to_signed::<i32>(n),
         Number::Bad => 0,
     }
 }
 
 pub fn signed_64(line: &[u8], k: usize) -> i64 {
     match number(field(line, k)) {
-        Number::Natural(n) => numbers::signed_i64(n),
-        Number::Negative(n) => !numbers::signed_i64(n),
+        Number::Natural(n) => numbers::to_signed::<i64>(n),
+        Number::Negative(n) => !numbers::to_signed::<i64>(n),
         Number::Bad => 0,
     }
 }
@@ -194,7 +194,7 @@ fn is_kind(s: &[u8], kind: u8) -> bool {
 
 // Whether a line is this word and one field of each of these kinds.
 fn is_line(line: &[u8], word: &[u8], kinds: &[u8]) -> bool {
-    if !numbers::same(field(line, 0), word) {
+    if field(line, 0) != word {
         return false;
     }
     let mut k: usize = 0;

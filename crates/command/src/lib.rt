@@ -125,7 +125,7 @@ fn is_word(run: &[u8], row: usize) -> bool
     let w = word_at(row);
     let letters = w.letters;
     let len = w.len;
-    numbers::same(run, &letters[..len])
+    run == &letters[..len]
 }
 
 // The row of the command with this word; the last row if there is none.

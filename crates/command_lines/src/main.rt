@@ -93,7 +93,7 @@ fn print_producer(
     a: u64,
     b: u64,
 ) -> io::Result<()> {
-    print_three(rt, row, pid, numbers::wide_i16(epoch), number, name)?;
+    print_three(rt, row, pid, i64::from(epoch), number, name)?;
     print_payloads(rt, row, a, b, name)
 }
 
@@ -125,7 +125,7 @@ fn print_command(rt: &impl Print, c: Command) -> io::Result<()> {
             name,
             timeout,
             time,
-        } => print_two(rt, row, numbers::wide_i32(timeout), time, name),
+        } => print_two(rt, row, i64::from(timeout), time, name),
         Command::Add {
             name,
             pid,
@@ -148,7 +148,7 @@ fn print_command(rt: &impl Print, c: Command) -> io::Result<()> {
             sequence,
             payload,
         } => {
-            let number = numbers::wide_i32(sequence);
+            let number = i64::from(sequence);
             print_producer(rt, row, name, pid, epoch, number, position, payload)
         }
         _ => print_nameless(rt, row, c),

@@ -47,8 +47,8 @@ fn write_number(reply: Reply, out: &mut [u8], at: usize) -> usize
     ensures { Wrote (field (number_field reply)) out.old at result out.new × (result ≤ at + field_max) }
 {
     match reply {
-        Reply::Unknown => text::field_bytes(out, at, b"-"),
-        Reply::Answered { number, results: _ } => text::field_decimal(out, at, number as u64),
+        Reply::Unknown => text::write_field(out, at, b"-"),
+        Reply::Answered { number, results: _ } => text::write_field(out, at, number as u64),
     }
 }
 
@@ -67,7 +67,7 @@ fn write_one(a: i64, out: &mut [u8], at: usize) -> usize
     requires { at + field_max ≤ length out.old }
     ensures { Wrote (fields (signed_decimal a ∷ [])) out.old at result out.new × (result ≤ at + field_max) }
 {
-    text::field_signed(out, at, a)
+    text::write_field(out, at, a)
 }
 
 // Writes two numbers.
@@ -75,7 +75,7 @@ fn write_two(a: i64, b: i64, out: &mut [u8], at: usize) -> usize
     requires { at + 2 * field_max ≤ length out.old }
     ensures { Wrote (fields (signed_decimal a ∷ signed_decimal b ∷ [])) out.old at result out.new × (result ≤ at + 2 * field_max) }
 {
-    let next = text::field_signed(out, at, a);
+    let next = text::write_field(out, at, a);
     write_one(b, out, next)
 }
 
@@ -84,7 +84,7 @@ fn write_three(a: i64, b: i64, c: i64, out: &mut [u8], at: usize) -> usize
     requires { at + 3 * field_max ≤ length out.old }
     ensures { Wrote (fields (signed_decimal a ∷ signed_decimal b ∷ signed_decimal c ∷ [])) out.old at result out.new × (result ≤ at + 3 * field_max) }
 {
-    let next = text::field_signed(out, at, a);
+    let next = text::write_field(out, at, a);
     write_two(b, c, out, next)
 }
 
@@ -96,7 +96,7 @@ fn write_payloads(payloads: &[u64], n: usize, out: &mut [u8], at: usize) -> usiz
     let mut next = at;
     let mut i: usize = 0;
     while i < n {
-        next = text::field_decimal(out, next, payloads[i]);
+        next = text::write_field(out, next, payloads[i]);
         i += 1;
     }
     next
@@ -108,10 +108,10 @@ fn write_read(payloads: &[u64], count: usize, out: &mut [u8], at: usize) -> usiz
     ensures { Wrote (fields (payload_fields (take count payloads.now))) out.old at result out.new × (result ≤ at + results_max (length payloads.now)) }
 {
     if count == 0 {
-        return text::field_bytes(out, at, b"-");
+        return text::write_field(out, at, b"-");
     }
     if payloads.len() == 0 {
-        return text::field_bytes(out, at, b"-");
+        return text::write_field(out, at, b"-");
     }
     if payloads.len() < count {
         return write_payloads(payloads, payloads.len(), out, at);
@@ -126,7 +126,7 @@ fn write_results(results: Results, payloads: &[u64], out: &mut [u8], at: usize) 
 {
     match results {
         Results::Empty => at,
-        Results::Absent => text::field_bytes(out, at, b"-"),
+        Results::Absent => text::write_field(out, at, b"-"),
         Results::One(a) => write_one(a, out, at),
         Results::Two(a, b) => write_two(a, b, out, at),
         Results::Three {
@@ -164,8 +164,8 @@ fn write_line(
 {
     let next = write_word(row, out, at);
     let next = write_number(reply, out, next);
-    let next = text::field_decimal(out, next, log as u64);
-    let next = text::field_decimal(out, next, flushed as u64);
+    let next = text::write_field(out, next, log as u64);
+    let next = text::write_field(out, next, flushed as u64);
     let next = write_results(results_of(reply), payloads, out, next);
     text::write_bytes(out, next, b"\n")
 }

@@ -20,6 +20,7 @@ ghost use Rattle.producer_ids.specs.Parts.{init_row_with, init_at, init_answer_a
 
 use answers::InitAnswer;
 use coordinator::{Change, Coordinator, Initialized};
+use numbers::Integer;
 use row::Row;
 use table::Held;
 
@@ -35,7 +36,7 @@ fn new_pid(s: Coordinator) -> u64
     ensures { result ≡ new_pid s }
 {
     let table = s.table;
-    numbers::greater(s.first, table.next)
+    s.first.max(table.next)
 }
 
 // The record of Init: a new pid, or the next epoch of the same.
@@ -49,7 +50,7 @@ fn init_row_with(
 ) -> Row
     ensures { result ≡ init_row_with name known row pid timeout clock }
 {
-    let timeout = numbers::natural_i32(timeout);
+    let timeout = timeout.natural();
     if needs_pid(known, row) {
         return row::initialized(name, pid, 0, timeout, clock);
     }
@@ -168,8 +169,8 @@ fn init_change(
 fn given(new: Row) -> InitAnswer
     ensures { result ≡ Given (signed_of w64 new.pid) (signed_of w16 new.epoch) }
 {
-    let pid = numbers::signed_i64(new.pid);
-    let epoch = numbers::signed_i16(new.epoch as u64);
+    let pid = numbers::to_signed::<i64>(new.pid);
+    let epoch = numbers::to_signed::<i16>(new.epoch as u64);
     InitAnswer::Given(pid, epoch)
 }
 

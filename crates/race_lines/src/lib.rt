@@ -53,7 +53,7 @@ pub fn parse(line: &[u8]) -> Request
     if fields.count != 5 {
         return Request::Unknown;
     }
-    if !numbers::same(fields::field_in(line, fields, 0), b"race") {
+    if fields::field_in(line, fields, 0) != b"race" {
         return Request::Unknown;
     }
     board_of(line, fields)
@@ -67,7 +67,7 @@ fn write_answer(answer: RaceAnswer, out: &mut [u8], at: usize) -> usize
     match answer {
         RaceAnswer::Forced => text::write_bytes(out, at, b"\t0\t1"),
         RaceAnswer::NotForced => text::write_bytes(out, at, b"\t0\t0"),
-        RaceAnswer::Refused(number) => text::field_decimal(out, at, number as u64),
+        RaceAnswer::Refused(number) => text::write_field(out, at, number as u64),
     }
 }
 

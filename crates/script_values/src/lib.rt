@@ -2,6 +2,7 @@
 #![tactic(auto)]
 
 use coordinator::Coordinator;
+use numbers::Integer;
 use partition::Partition;
 
 // Whether an id is held at a place, and an epoch is one in which a transaction may begin.
@@ -13,7 +14,7 @@ pub fn may_hold(c: Coordinator, place: usize, epoch: i16) -> bool {
     if row::free(rows[place]) {
         return false;
     }
-    0 <= epoch && numbers::natural_i16(epoch) <= row::EPOCH_LAST
+    0 <= epoch && epoch.natural() <= row::EPOCH_LAST
 }
 
 // The coordinator in which the id at a place holds this epoch.
@@ -23,7 +24,7 @@ pub fn with_epoch(c: Coordinator, place: usize, epoch: i16) -> Coordinator {
     }
     let mut rows = c.table.rows;
     let mut row = rows[place];
-    row.epoch = numbers::natural_i16(epoch);
+    row.epoch = epoch.natural();
     rows[place] = row;
     let mut table = c.table;
     table.rows = rows;
@@ -48,7 +49,7 @@ pub fn with_sequence(p: Partition, place: usize, sequence: i32) -> Partition {
     }
     let mut producers = p.producers;
     let mut producer = producers[place];
-    producer.sequence = numbers::natural_i32(sequence);
+    producer.sequence = sequence.natural();
     producers[place] = producer;
     let mut u = p;
     u.producers = producers;

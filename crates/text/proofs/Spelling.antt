@@ -4,7 +4,8 @@ use mathlib.Core.Path.{◌≡◌, refl, sym, ap, ◌∙◌}
 use mathlib.Core.List.{List, ◌∷◌, ◌++◌, append_assoc, append-nil}
 use native.Mathlib.Numerals.{add-one}
 use native.Mathlib.Omega.{arith}
-use lib.ListN.{length, drop, set, drop_of_length-le}
+use lib.ListN.{length, take, drop, set, length-drop, length-set, drop_of_length-le}
+use lib.Seq.{take_all}
 use Rattle.numbers.proofs.Bytes.{drop-set-same}
 use Rattle.text.specs.Decimal.{digit, decimal}
 use Rattle.text.specs.Limits.{digits_max}
@@ -34,3 +35,8 @@ module _ (x rest start : ℕ) (digits : List ℕ) (inside : start < length digit
   -- the first digit, where no more are left
   pub spelled-last : rest < 10 → drop start (set digits start (digit rest)) ≡ decimal x
   spelled-last h = behind (digit rest) ∙ sym (spelled ∙ rw (decimal-short rest h) refl)
+
+  -- so the part of the array that is lent is the decimal
+  pub spelled_part : length digits ≡ digits_max → rest < 10 → take (digits_max - start) (drop start (set digits start (digit rest))) ≡ decimal x
+  spelled_part l h =
+      take_all (digits_max - start) (drop start (set digits start (digit rest))) (simp (length-drop, length-set) (omega arith)) ∙ spelled-last h

@@ -1,20 +1,13 @@
 // Words, shortest decimals and lines of tab-parted fields, written into a lent buffer.
 #![tactic(auto)]
 
-ghost use Rattle.std.specs.Prelude.{◌≡◌, ◌+◌, ◌≤◌, length, drop};
+ghost use Rattle.std.specs.Prelude.{◌≡◌, ℕ, List, ◌+◌, ◌≤◌, length};
 ghost use Rattle.text.specs.Decimal.{decimal, signed_decimal};
 ghost use Rattle.text.specs.Limits.{digits_max};
 ghost use Rattle.text.specs.Lines.{field, Wrote};
 
 // The limit of specs/Limits.antt, under the same name.
 pub const DIGITS_MAX: usize = 20;
-
-// A decimal at the end of an array, and where it starts.
-#[derive(Clone, Copy)]
-struct Spelled {
-    digits: [u8; DIGITS_MAX],
-    start: usize,
-}
 
 // ---- Each caller has seen that the bytes fit behind the place, hence the `requires`. The answer is the place behind them.
 
@@ -27,9 +20,10 @@ pub fn write_bytes(out: &mut [u8], at: usize, run: &[u8]) -> usize
     at + run.len()
 }
 
-// The decimal of a number at the end of an array, from `start` on.
-fn spell(x: u64) -> Spelled
-    ensures { (result.start ≤ digits_max) × (drop result.start result.digits ≡ decimal x) }
+// Writes the shortest decimal of a number, which is spelled at the end of an array first.
+fn write_decimal(out: &mut [u8], at: usize, x: u64) -> usize
+    requires { at + length (decimal x) ≤ length out.old }
+    ensures { Wrote (decimal x) out.old at result out.new }
 {
     let mut digits = [0u8; DIGITS_MAX];
     let mut rest = x;
@@ -40,56 +34,60 @@ fn spell(x: u64) -> Spelled
         start -= 1;
     }
     digits[start] = b'0' + rest as u8;
-    Spelled { digits, start }
-}
-
-// Writes the shortest decimal of a number.
-pub fn write_decimal(out: &mut [u8], at: usize, x: u64) -> usize
-    requires { at + length (decimal x) ≤ length out.old }
-    ensures { Wrote (decimal x) out.old at result out.new }
-{
-    let spelled = spell(x);
-    let digits = spelled.digits;
-    let start = spelled.start;
     write_bytes(out, at, &digits[start..])
 }
 
-// Writes the shortest decimal of a signed number.
-pub fn write_signed(out: &mut [u8], at: usize, x: i64) -> usize
-    requires { at + length (signed_decimal x) ≤ length out.old }
-    ensures { Wrote (signed_decimal x) out.old at result out.new }
-{
-    let magnitude = numbers::magnitude(x);
-    if x < 0 {
-        let next = write_bytes(out, at, b"-");
-        return write_decimal(out, next, magnitude);
+// What a field can hold: bytes as they are, a number or a signed number as its shortest decimal.
+pub trait Text: Copy {
+    ghost text: { Self → List ℕ };
+
+    fn write(self, out: &mut [u8], at: usize) -> usize
+        requires { at + length (text self) ≤ length out.old }
+        ensures { Wrote (text self) out.old at result out.new };
+}
+
+impl<'a> Text for &'a [u8] {
+    ghost text = { λ run. run.now };
+
+    fn write(self, out: &mut [u8], at: usize) -> usize {
+        write_bytes(out, at, self)
     }
-    write_decimal(out, at, magnitude)
 }
 
-// Writes a field of bytes behind a tab.
-pub fn field_bytes(out: &mut [u8], at: usize, run: &[u8]) -> usize
-    requires { at + length (field run.now) ≤ length out.old }
-    ensures { Wrote (field run.now) out.old at result out.new }
-{
-    let next = write_bytes(out, at, b"\t");
-    write_bytes(out, next, run)
+impl<'a, const N: usize> Text for &'a [u8; N] {
+    ghost text = { λ run. run.now };
+
+    fn write(self, out: &mut [u8], at: usize) -> usize {
+        write_bytes(out, at, self)
+    }
 }
 
-// Writes a number behind a tab.
-pub fn field_decimal(out: &mut [u8], at: usize, x: u64) -> usize
-    requires { at + length (field (decimal x)) ≤ length out.old }
-    ensures { Wrote (field (decimal x)) out.old at result out.new }
-{
-    let next = write_bytes(out, at, b"\t");
-    write_decimal(out, next, x)
+impl Text for u64 {
+    ghost text = { decimal };
+
+    fn write(self, out: &mut [u8], at: usize) -> usize {
+        write_decimal(out, at, self)
+    }
 }
 
-// Writes a signed number behind a tab.
-pub fn field_signed(out: &mut [u8], at: usize, x: i64) -> usize
-    requires { at + length (field (signed_decimal x)) ≤ length out.old }
-    ensures { Wrote (field (signed_decimal x)) out.old at result out.new }
+impl Text for i64 {
+    ghost text = { signed_decimal };
+
+    fn write(self, out: &mut [u8], at: usize) -> usize {
+        let magnitude = numbers::magnitude(self);
+        if self < 0 {
+            let next = write_bytes(out, at, b"-");
+            return write_decimal(out, next, magnitude);
+        }
+        write_decimal(out, at, magnitude)
+    }
+}
+
+// Writes a field behind a tab.
+pub fn write_field<T: Text>(out: &mut [u8], at: usize, x: T) -> usize
+    requires { at + length (field (T.text x)) ≤ length out.old }
+    ensures { Wrote (field (T.text x)) out.old at result out.new }
 {
     let next = write_bytes(out, at, b"\t");
-    write_signed(out, next, x)
+    x.write(out, next)
 }

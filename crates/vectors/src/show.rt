@@ -58,10 +58,10 @@ fn fields(rt: &impl Print, r: Record) -> io::Result<()> {
     let name = r.name;
     hex(rt, &name, record::NAME_MAX)?;
     signed(rt, r.pid)?;
-    signed(rt, numbers::wide_i16(r.epoch))?;
-    signed(rt, numbers::wide_i32(r.timeout))?;
+    signed(rt, i64::from(r.epoch))?;
+    signed(rt, i64::from(r.timeout))?;
     let status = r.status;
-    signed(rt, numbers::wide_i8(record::status_code(status)))?;
+    signed(rt, i64::from(record::status_code(status)))?;
     number(rt, r.joined)?;
     signed(rt, r.updated)?;
     signed(rt, r.start)

@@ -11,7 +11,7 @@ use Rattle.listing.specs.Limits.{field_max}
 use Rattle.listing.specs.Listing.{number_field, results_of, result_fields, reply_line}
 use Rattle.listing.proofs.Writing.{decimal-short, line-behind}
 use Rattle.listing.proofs.write_line.Goals as goal
-use Rattle.listing.proofs.write_line.Goals.{After-write_number-next, After-field_decimal-next, After-field_decimal-next-2}
+use Rattle.listing.proofs.write_line.Goals.{After-write_number-next, After-write_field-next, After-write_field-next-2}
 
 -- how far each has come, and that the buffer keeps its length
 numbered : (c : After-write_number-next) → let a = c.args in
@@ -19,36 +19,36 @@ numbered : (c : After-write_number-next) → let a = c.args in
 numbered c =
     (omega (arith, c.write_word-next.ensures.1, c.write_number-next.ensures.1), omega (arith, c.write_word-next.auto.out, c.write_number-next.auto.out))
 
-logged : (c : After-field_decimal-next) → let a = c.args in
-    (c.field_decimal-next.result ≤ a.at + word_max + 2 * field_max) × (length c.field_decimal-next.new.out ≡ length a.out.now)
+logged : (c : After-write_field-next) → let a = c.args in
+    (c.write_field-next.result ≤ a.at + word_max + 2 * field_max) × (length c.write_field-next.new.out ≡ length a.out.now)
 logged c =
     let numbered-here : let a = c.args in (c.write_number-next.result ≤ a.at + word_max + field_max) × (length c.write_number-next.new.out ≡ length a.out.now) = (omega (arith, c.write_word-next.ensures.1, c.write_number-next.ensures.1), omega (arith, c.write_word-next.auto.out, c.write_number-next.auto.out)) in
     let d = decimal-short c.args.log (search rules) in
-    (omega (arith, d, c.field_decimal-next.ensures.0, numbered-here.0), omega (arith, c.field_decimal-next.auto.out, numbered-here.1))
+    (omega (arith, d, c.write_field-next.ensures.0, numbered-here.0), omega (arith, c.write_field-next.auto.out, numbered-here.1))
 
-flushed : (c : After-field_decimal-next-2) → let a = c.args in
-    (c.field_decimal-next-2.result ≤ a.at + word_max + 3 * field_max) × (length c.field_decimal-next-2.new.out ≡ length a.out.now)
+flushed : (c : After-write_field-next-2) → let a = c.args in
+    (c.write_field-next-2.result ≤ a.at + word_max + 3 * field_max) × (length c.write_field-next-2.new.out ≡ length a.out.now)
 flushed c =
     let numbered-here : let a = c.args in (c.write_number-next.result ≤ a.at + word_max + field_max) × (length c.write_number-next.new.out ≡ length a.out.now) = (omega (arith, c.write_word-next.ensures.1, c.write_number-next.ensures.1), omega (arith, c.write_word-next.auto.out, c.write_number-next.auto.out)) in
-    let logged-here : let a = c.args in (c.field_decimal-next.result ≤ a.at + word_max + 2 * field_max) × (length c.field_decimal-next.new.out ≡ length a.out.now) = (let d = decimal-short c.args.log (search rules) in (omega (arith, d, c.field_decimal-next.ensures.0, numbered-here.0), omega (arith, c.field_decimal-next.auto.out, numbered-here.1))) in
+    let logged-here : let a = c.args in (c.write_field-next.result ≤ a.at + word_max + 2 * field_max) × (length c.write_field-next.new.out ≡ length a.out.now) = (let d = decimal-short c.args.log (search rules) in (omega (arith, d, c.write_field-next.ensures.0, numbered-here.0), omega (arith, c.write_field-next.auto.out, numbered-here.1))) in
     let d = decimal-short c.args.flushed (search rules) in
-    (omega (arith, d, c.field_decimal-next-2.ensures.0, logged-here.0), omega (arith, c.field_decimal-next-2.auto.out, logged-here.1))
+    (omega (arith, d, c.write_field-next-2.ensures.0, logged-here.0), omega (arith, c.write_field-next-2.auto.out, logged-here.1))
 
-pub field_decimal-next-requires : goal.field_decimal-next-requires
-field_decimal-next-requires c =
-    omega (arith, decimal-short c.args.log (search rules), (numbered (goal.at.field_decimal-next-requires c).After-write_number-next).0, (numbered (goal.at.field_decimal-next-requires c).After-write_number-next).1, c.requires)
+pub write_field-next-requires : goal.write_field-next-requires
+write_field-next-requires c =
+    omega (arith, decimal-short c.args.log (search rules), (numbered (goal.at.write_field-next-requires c).After-write_number-next).0, (numbered (goal.at.write_field-next-requires c).After-write_number-next).1, c.requires)
 
-pub field_decimal-next-requires-2 : goal.field_decimal-next-requires-2
-field_decimal-next-requires-2 c =
-    omega (arith, decimal-short c.args.flushed (search rules), (logged (goal.at.field_decimal-next-requires-2 c).After-field_decimal-next).0, (logged (goal.at.field_decimal-next-requires-2 c).After-field_decimal-next).1, c.requires)
+pub write_field-next-requires-2 : goal.write_field-next-requires-2
+write_field-next-requires-2 c =
+    omega (arith, decimal-short c.args.flushed (search rules), (logged (goal.at.write_field-next-requires-2 c).After-write_field-next).0, (logged (goal.at.write_field-next-requires-2 c).After-write_field-next).1, c.requires)
 
 pub write_results-next-requires : goal.write_results-next-requires
 write_results-next-requires c =
-    omega (arith, (flushed (goal.at.write_results-next-requires c).After-field_decimal-next-2).0, (flushed (goal.at.write_results-next-requires c).After-field_decimal-next-2).1, c.requires)
+    omega (arith, (flushed (goal.at.write_results-next-requires c).After-write_field-next-2).0, (flushed (goal.at.write_results-next-requires c).After-write_field-next-2).1, c.requires)
 
 pub write_bytes-requires : goal.write_bytes-requires
 write_bytes-requires c =
-    omega (arith, c.write_results-next.ensures.1, c.write_results-next.auto.out, (flushed (goal.at.write_bytes-requires c).After-field_decimal-next-2).0, (flushed (goal.at.write_bytes-requires c).After-field_decimal-next-2).1, c.requires)
+    omega (arith, c.write_results-next.ensures.1, c.write_results-next.auto.out, (flushed (goal.at.write_bytes-requires c).After-write_field-next-2).0, (flushed (goal.at.write_bytes-requires c).After-write_field-next-2).1, c.requires)
 
 pub returns : goal.returns
 unfolding reply_line
@@ -56,7 +56,7 @@ returns c =
     let a = c.args in
     let d = rw c.results_of.ensures at c.write_results-next.ensures.0 in (
       line-behind (word_at a.row) (number_field a.reply) (decimal a.log) (decimal a.flushed) (result_fields (results_of a.reply) a.payloads.now)
-          a.out.now a.at c.write_word-next.ensures.0 c.write_number-next.ensures.0 c.field_decimal-next.ensures c.field_decimal-next-2.ensures d c.write_bytes.ensures
-          (omega (arith, c.write_bytes.ensures.0, c.write_results-next.ensures.1, (flushed (goal.at.returns c).After-field_decimal-next-2).0, c.requires)),
-      omega (arith, c.write_bytes.ensures.0, c.write_results-next.ensures.1, (flushed (goal.at.returns c).After-field_decimal-next-2).0),
+          a.out.now a.at c.write_word-next.ensures.0 c.write_number-next.ensures.0 c.write_field-next.ensures c.write_field-next-2.ensures d c.write_bytes.ensures
+          (omega (arith, c.write_bytes.ensures.0, c.write_results-next.ensures.1, (flushed (goal.at.returns c).After-write_field-next-2).0, c.requires)),
+      omega (arith, c.write_bytes.ensures.0, c.write_results-next.ensures.1, (flushed (goal.at.returns c).After-write_field-next-2).0),
     )

@@ -4,12 +4,12 @@ use native.Mathlib.Omega.{arith}
 use Rattle.listing.proofs.Writing.{decimal-short}
 use Rattle.listing.proofs.write_number.Goals as goal
 
-pub field_decimal-requires : goal.field_decimal-requires
-field_decimal-requires c = omega (arith, decimal-short c.in-Answered.number (search rules), c.requires)
+pub write_field-requires-2 : goal.write_field-requires-2
+write_field-requires-2 c = omega (arith, decimal-short c.in-Answered.number (search rules), c.requires)
 
 pub returns-in-Unknown : goal.returns-in-Unknown
-returns-in-Unknown c = (rw c.in-Unknown.is c.field_bytes.ensures, omega (arith, c.field_bytes.ensures.0))
+returns-in-Unknown c = (rw c.in-Unknown.is c.write_field.ensures, omega (arith, c.write_field.ensures.0))
 
 pub returns-in-Answered : goal.returns-in-Answered
 returns-in-Answered c =
-    (rw c.in-Answered.is c.field_decimal.ensures, omega (arith, decimal-short c.in-Answered.number (search rules), c.field_decimal.ensures.0))
+    (rw c.in-Answered.is c.write_field-2.ensures, omega (arith, decimal-short c.in-Answered.number (search rules), c.write_field-2.ensures.0))

@@ -19,8 +19,8 @@ offset_bounds-payloads-i c =
 pub bounds-payloads-i : goal.bounds-payloads-i
 bounds-payloads-i c = omega (arith, c.requires.0)
 
-pub field_decimal-next-requires : goal.field_decimal-next-requires
-field_decimal-next-requires c =
+pub write_field-next-requires : goal.write_field-next-requires
+write_field-next-requires c =
     let x = get_or c.args.payloads.now c.loop-i.i 0 in
     omega (arith, decimal-short x (omega (arith, c.type_inv.payloads c.loop-i.i)), c.loop-i.invariant.2, c.loop-i.invariant.3, c.requires.1)
 
@@ -36,11 +36,11 @@ loop-i-preserved c =
     let p = c.args.payloads.now in
     let x = get_or p c.loop-i.i 0 in
     let d = decimal-short x (omega (arith, c.type_inv.payloads c.loop-i.i)) in
-    let e = c.field_decimal-next.ensures in (
+    let e = c.write_field-next.ensures in (
       omega arith,
       one_more p c.args.out.now c.args.at c.loop-i.i (omega (arith, c.requires.0)) i.1 e (omega (arith, d, e.0, i.2, c.requires.1)),
       omega (arith, d, e.0, i.2),
-      c.field_decimal-next.auto.out ∙ i.3,
+      c.write_field-next.auto.out ∙ i.3,
     )
 
 pub shape_of-out : goal.shape_of-out

@@ -8,15 +8,15 @@ use Rattle.listing.proofs.write_read.Goals as goal
 pub returns-then-count-eq0 : goal.returns-then-count-eq0
 returns-then-count-eq0 c =
     let a = c.args in (
-      rw (no_payload a.payloads.now a.count c.if-count-eq0.true) (last-wrote none a.out.now a.at c.field_bytes.ensures),
-      omega (arith, c.field_bytes.ensures.0),
+      rw (no_payload a.payloads.now a.count c.if-count-eq0.true) (last-wrote none a.out.now a.at c.write_field.ensures),
+      omega (arith, c.write_field.ensures.0),
     )
 
 pub returns-then-payloads-eq0 : goal.returns-then-payloads-eq0
 returns-then-payloads-eq0 c =
     let a = c.args in (
-      rw (no-payloads a.payloads.now a.count c.if-payloads-eq0.true) (last-wrote none a.out.now a.at c.field_bytes-then-payloads-eq0.ensures),
-      omega (arith, c.field_bytes-then-payloads-eq0.ensures.0),
+      rw (no-payloads a.payloads.now a.count c.if-payloads-eq0.true) (last-wrote none a.out.now a.at c.write_field-then-payloads-eq0.ensures),
+      omega (arith, c.write_field-then-payloads-eq0.ensures.0),
     )
 
 pub returns-then-payloads-count : goal.returns-then-payloads-count

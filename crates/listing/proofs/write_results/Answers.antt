@@ -16,7 +16,7 @@ returns-in-Empty c = (rw c.in-Empty.is (none-wrote c.args.out.now c.args.at), om
 pub returns-in-Absent : goal.returns-in-Absent
 returns-in-Absent c =
     let a = c.args in
-    (rw c.in-Absent.is (last-wrote none a.out.now a.at c.field_bytes.ensures), omega (arith, c.field_bytes.ensures.0))
+    (rw c.in-Absent.is (last-wrote none a.out.now a.at c.write_field.ensures), omega (arith, c.write_field.ensures.0))
 
 pub returns-in-One : goal.returns-in-One
 returns-in-One c =

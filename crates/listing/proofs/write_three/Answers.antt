@@ -6,17 +6,17 @@ use Rattle.text.specs.Decimal.{signed_decimal}
 use Rattle.listing.proofs.Writing.{signed-short, field-behind}
 use Rattle.listing.proofs.write_three.Goals as goal
 
-pub field_signed-next-requires : goal.field_signed-next-requires
-field_signed-next-requires c = rw (to_z-of_z c.ranges.a) (omega (arith, signed-short c.args.a c.ranges.a, c.requires))
+pub write_field-next-requires : goal.write_field-next-requires
+write_field-next-requires c = rw (to_z-of_z c.ranges.a) (omega (arith, signed-short c.args.a c.ranges.a, c.requires))
 
 pub write_two-requires : goal.write_two-requires
 write_two-requires c =
-    let e = rw (to_z-of_z c.ranges.a) at c.field_signed-next.ensures in
-    omega (arith, signed-short c.args.a c.ranges.a, e.0, c.requires, c.field_signed-next.auto.out)
+    let e = rw (to_z-of_z c.ranges.a) at c.write_field-next.ensures in
+    omega (arith, signed-short c.args.a c.ranges.a, e.0, c.requires, c.write_field-next.auto.out)
 
 pub returns : goal.returns
 returns c =
-    let e = rw (to_z-of_z c.ranges.a) at c.field_signed-next.ensures in
+    let e = rw (to_z-of_z c.ranges.a) at c.write_field-next.ensures in
     let f = rw (to_z-of_z c.ranges.b, to_z-of_z c.ranges.c) at c.write_two.ensures.0 in (
       field-behind (signed_decimal c.args.a) (signed_decimal c.args.b ∷ signed_decimal c.args.c ∷ []) c.args.out.now c.args.at e f
           (omega (arith, signed-short c.args.a c.ranges.a, e.0, c.write_two.ensures.1, c.requires)),

@@ -6,8 +6,8 @@ use Rattle.text.proofs.Lines.{last-wrote}
 use Rattle.race_lines.proofs.Lines.{forced-fields, not-forced-fields, refusal-short}
 use Rattle.race_lines.proofs.write_answer.Goals as goal
 
-pub field_decimal-requires : goal.field_decimal-requires
-field_decimal-requires c = omega (arith, refusal-short c.in-Refused.number (search rules), c.requires)
+pub write_field-requires : goal.write_field-requires
+write_field-requires c = omega (arith, refusal-short c.in-Refused.number (search rules), c.requires)
 
 pub returns-in-Forced : goal.returns-in-Forced
 returns-in-Forced c = (rw (c.in-Forced.is, forced-fields) c.write_bytes.ensures, omega (arith, c.write_bytes.ensures.0))
@@ -19,4 +19,4 @@ returns-in-NotForced c =
 pub returns-in-Refused : goal.returns-in-Refused
 returns-in-Refused c =
     let number = c.in-Refused.number in
-    (rw c.in-Refused.is (last-wrote (decimal number) c.args.out.now c.args.at c.field_decimal.ensures), omega (arith, refusal-short number (search rules), c.field_decimal.ensures.0))
+    (rw c.in-Refused.is (last-wrote (decimal number) c.args.out.now c.args.at c.write_field.ensures), omega (arith, refusal-short number (search rules), c.write_field.ensures.0))

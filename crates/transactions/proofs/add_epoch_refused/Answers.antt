@@ -9,4 +9,4 @@ use Rattle.transactions.proofs.add_epoch_refused.Goals as goal
 pub returns : goal.returns
 returns c =
     let a = c.args in
-    barred-is a.epoch a.row c.ranges.epoch (compared-wide w16 w64 a.epoch epoch_max c.ranges.epoch (sfits_of {w = w64} {z = c.wide_i16.result} c.wide_i16.type_inv) c.wide_i16.ensures c.equals-last.ensures) c.same_epoch.ensures
+    barred-is a.epoch a.row c.ranges.epoch (compared-wide w16 w64 a.epoch epoch_max c.ranges.epoch (sfits_of {w = w64} {z = c.from.result} c.from.type_inv) c.from.ensures c.equals-last.ensures) c.same_epoch.ensures
