@@ -1,8 +1,8 @@
 -- What a cut of a session's log leads to: the log is opened at the length left, and all that is left to carry is carried.
 use Rattle.std.specs.Prelude.{ℕ, zero, suc, ◌*◌, ◌-◌, ◌^◌, Bool, true, false, cond, []}
 use Rattle.answers.specs.Limits.{places}
-use Rattle.answers.specs.declared.OrderAnswer.{OrderAnswer}
-use Rattle.answers.specs.declared.OrderAnswer.TheVariants.{Order, NoOrder}
+use Rattle.answers.specs.OrderAnswer.{OrderAnswer}
+use Rattle.answers.specs.OrderAnswer.{Order, NoOrder}
 use Rattle.coordinator.specs.Order.{order}
 use Rattle.command.specs.declared.Command.TheVariants.{Flush, Carry, Cut}
 use Rattle.cut_outcomes.specs.Outcomes.{outcome}

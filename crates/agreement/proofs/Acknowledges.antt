@@ -21,7 +21,7 @@ use Rattle.record.proofs.Bounds.{well-formed-parts}
 use Rattle.search.proofs.Found.{some_same}
 use Rattle.search.proofs.Members.{In, in-each}
 use Rattle.answers.specs.Refusals.{first_refusal}
-use Rattle.answers.specs.declared.Answer.TheVariants.{Refused}
+use Rattle.answers.specs.Answer.{Refused}
 use Rattle.answers.proofs.Laws.{none_is, unless-does}
 use Rattle.row.specs.Row.{free, is_prepare, held, with_acknowledged}
 use Rattle.row.specs.declared.Row.{Row}

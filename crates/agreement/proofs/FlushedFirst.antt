@@ -10,11 +10,11 @@ use borrow.Author.Tests.{eqb-false, ltb-true}
 use Rattle.numbers.proofs.Tests.{by_cases, not-both}
 use Rattle.answers.specs.Limits.{places}
 use Rattle.answers.specs.Refusals.{first_refusal, Decision}
-use Rattle.answers.specs.declared.Answer.TheVariants.{Refused}
-use Rattle.answers.specs.declared.InitAnswer.{InitAnswer}
-use Rattle.answers.specs.declared.InitAnswer.TheVariants.{Refused as InitRefused}
-use Rattle.answers.specs.declared.TickAnswer.{TickAnswer}
-use Rattle.answers.specs.declared.TickAnswer.TheVariants.{Refused as TickRefused}
+use Rattle.answers.specs.Answer.{Refused}
+use Rattle.answers.specs.InitAnswer.{InitAnswer}
+use Rattle.answers.specs.InitAnswer.{Refused as InitRefused}
+use Rattle.answers.specs.TickAnswer.{TickAnswer}
+use Rattle.answers.specs.TickAnswer.{Refused as TickRefused}
 use Rattle.answers.proofs.Laws.{unless-does}
 use Rattle.row.specs.Row.{free, is_begin, is_prepare}
 use Rattle.row.specs.declared.Row.{Row}

@@ -10,7 +10,7 @@ use Rattle.catalogue.specs.Catalogue.{parse}
 use Rattle.catalogue.specs.declared.Catalogue.{Catalogue}
 use Rattle.record.specs.declared.Record.{Record}
 use Rattle.answers.specs.Answers.{open_reply}
-use Rattle.answers.specs.declared.OpenAnswer.TheVariants.{Opened}
+use Rattle.answers.specs.OpenAnswer.{Opened}
 use Rattle.row.specs.Row.{is_prepare}
 use Rattle.table.specs.Table.{row_at, place_of}
 use Rattle.log_reader.specs.Records.{frames_of, table_of, whole_in}
@@ -19,7 +19,7 @@ use Rattle.log_reader.proofs.RecordLaws.{table-length}
 use Rattle.coordinator.specs.Coordinator.{log_end, unflushed, Action, keep, advance, append, acknowledge as acknowledge_at, flush_to, appended, acknowledged, after, log_after}
 use Rattle.coordinator.specs.Open.{opening, taken_over}
 use Rattle.coordinator.specs.declared.Coordinator.{Coordinator}
-use Rattle.coordinator.specs.declared.OpenedLog.{OpenedLog}
+use Rattle.coordinator.specs.OpenedLog.{OpenedLog}
 use Rattle.coordinator.proofs.OpenCases.{open-number, opening-taken}
 use Rattle.writable_logs.specs.Writer.{opening_typed, out_of_order}
 use Rattle.writable_logs.proofs.Decisions.{Decided}

@@ -29,7 +29,7 @@ use Rattle.search.proofs.Found.{found-is}
 use Rattle.search.proofs.Find.{find-in}
 use Rattle.answers.specs.Limits.{places}
 use Rattle.answers.specs.Refusals.{first_refusal}
-use Rattle.answers.specs.declared.ProduceAnswer.TheVariants.{Refused}
+use Rattle.answers.specs.ProduceAnswer.{Refused}
 use Rattle.answers.proofs.Laws.{unless-does}
 use Rattle.row.specs.Row.{is_prepare}
 use Rattle.row.specs.declared.Row.{Row}

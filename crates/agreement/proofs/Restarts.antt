@@ -17,10 +17,10 @@ use Rattle.catalogue.specs.Catalogue.{parse}
 use Rattle.catalogue.specs.declared.Catalogue.{Catalogue}
 use Rattle.answers.specs.Answers.{reply, open_reply}
 use Rattle.answers.specs.Refusals.{first_refusal}
-use Rattle.answers.specs.declared.Answer.TheVariants.{Refused}
-use Rattle.answers.specs.declared.InitAnswer.TheVariants.{Refused as InitRefused}
-use Rattle.answers.specs.declared.TickAnswer.TheVariants.{Refused as TickRefused}
-use Rattle.answers.specs.declared.ProduceAnswer.TheVariants.{Refused as ProduceRefused}
+use Rattle.answers.specs.Answer.{Refused}
+use Rattle.answers.specs.InitAnswer.{Refused as InitRefused}
+use Rattle.answers.specs.TickAnswer.{Refused as TickRefused}
+use Rattle.answers.specs.ProduceAnswer.{Refused as ProduceRefused}
 use Rattle.answers.proofs.Laws.{unless-does}
 use Rattle.row.proofs.Laws.{prepare-busy}
 use Rattle.table.specs.Table.{empty_table, row_at}
@@ -38,7 +38,7 @@ use Rattle.coordinator.specs.Tick.{tick_tests, tick_accepted, tick}
 use Rattle.coordinator.specs.Ack.{ack_tests, ack}
 use Rattle.coordinator.specs.Open.{opening}
 use Rattle.coordinator.specs.declared.Coordinator.{Coordinator}
-use Rattle.coordinator.specs.declared.OpenedLog.{OpenedLog}
+use Rattle.coordinator.specs.OpenedLog.{OpenedLog}
 use Rattle.coordinator.specs.Calls.{CoordinatorCall, init_call, add_call, end_call, tick_call, flush_call, ack_call, action_of}
 use Rattle.coordinator.proofs.InitCases.{init-passed}
 use Rattle.coordinator.proofs.AddCases.{add-passed}

@@ -31,7 +31,7 @@ use Rattle.log_reader.proofs.RecordLaws.{come-formed, frames-newest, frames-none
 use Rattle.log_reader.proofs.RecordsRead.{Says, scan-records, says-torn}
 use Rattle.coordinator.specs.Coordinator.{log_end}
 use Rattle.coordinator.specs.Open.{take_over_tests, open_tests, opening}
-use Rattle.coordinator.specs.declared.OpenedLog.{OpenedLog}
+use Rattle.coordinator.specs.OpenedLog.{OpenedLog}
 use Rattle.coordinator.proofs.OpenCases.{open-number, opening-taken}
 use Rattle.writable_logs.specs.Writer.{AcceptedOpening}
 use Rattle.writable_logs.proofs.Reached.{opened-catalogue}

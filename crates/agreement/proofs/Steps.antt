@@ -13,7 +13,7 @@ use Rattle.bits.specs.Bits.{member}
 use Rattle.catalogue.specs.Catalogue.{parse}
 use Rattle.record.specs.Limits.{name_max}
 use Rattle.answers.specs.Refusals.{first_refusal}
-use Rattle.answers.specs.declared.ProduceAnswer.TheVariants.{Refused}
+use Rattle.answers.specs.ProduceAnswer.{Refused}
 use Rattle.answers.proofs.Laws.{unless-does}
 use Rattle.coordinator.specs.declared.Coordinator.{Coordinator}
 use Rattle.coordinator.specs.Calls.{ack_call, call_typed, action_of}

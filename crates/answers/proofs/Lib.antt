@@ -1,2 +1,3 @@
 -- Laws of the crate answers.
 pub mod Laws
+pub mod Returned

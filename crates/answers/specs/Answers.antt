@@ -1,20 +1,20 @@
 -- What each answer is in document 01: its number (0, or that of the refusal) and its results.
 use Rattle.std.specs.Prelude.{ℕ, List, [], ◌∷◌, ℤ, pos}
 use Rattle.answers.specs.Numbers.{invalid_log}
-use Rattle.answers.specs.declared.Answer.{Answer}
-use Rattle.answers.specs.declared.Answer.TheVariants.{Done, Refused}
-use Rattle.answers.specs.declared.OpenAnswer.{OpenAnswer}
-use Rattle.answers.specs.declared.OpenAnswer.TheVariants.{Opened, BadLog, Refused as OpenRefused}
-use Rattle.answers.specs.declared.InitAnswer.{InitAnswer}
-use Rattle.answers.specs.declared.InitAnswer.TheVariants.{Given, Aborting, Refused as InitRefused}
-use Rattle.answers.specs.declared.TickAnswer.{TickAnswer}
-use Rattle.answers.specs.declared.TickAnswer.TheVariants.{Aborted, NoneDue, Refused as TickRefused}
-use Rattle.answers.specs.declared.OrderAnswer.{OrderAnswer}
-use Rattle.answers.specs.declared.OrderAnswer.TheVariants.{Order, NoOrder}
-use Rattle.answers.specs.declared.ProduceAnswer.{ProduceAnswer}
-use Rattle.answers.specs.declared.ProduceAnswer.TheVariants.{Written, Refused as ProduceRefused}
-use Rattle.answers.specs.declared.ReadAnswer.{ReadAnswer}
-use Rattle.answers.specs.declared.ReadAnswer.TheVariants.{Copied, Refused as ReadRefused}
+use Rattle.answers.specs.Answer.{Answer}
+use Rattle.answers.specs.Answer.{Done, Refused}
+use Rattle.answers.specs.OpenAnswer.{OpenAnswer}
+use Rattle.answers.specs.OpenAnswer.{Opened, BadLog, Refused as OpenRefused}
+use Rattle.answers.specs.InitAnswer.{InitAnswer}
+use Rattle.answers.specs.InitAnswer.{Given, Aborting, Refused as InitRefused}
+use Rattle.answers.specs.TickAnswer.{TickAnswer}
+use Rattle.answers.specs.TickAnswer.{Aborted, NoneDue, Refused as TickRefused}
+use Rattle.answers.specs.OrderAnswer.{OrderAnswer}
+use Rattle.answers.specs.OrderAnswer.{Order, NoOrder}
+use Rattle.answers.specs.ProduceAnswer.{ProduceAnswer}
+use Rattle.answers.specs.ProduceAnswer.{Written, Refused as ProduceRefused}
+use Rattle.answers.specs.ReadAnswer.{ReadAnswer}
+use Rattle.answers.specs.ReadAnswer.{Copied, Refused as ReadRefused}
 
 -- an answer as document 01 writes it: 0 with the results, or the number of the refusal, of which only 6 has a result
 pub record Reply : Type 0 where

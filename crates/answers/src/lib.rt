@@ -1,120 +1,126 @@
-// The answers of the calls, as document 01 has them: done with its results, or refused with a number; and how many places an answer can name; the first refusal of tests in order.
+// What the calls answer, as document 01 has it: done with its results, or refused; how many places an answer can name; and one test of a call.
 #![tactic(auto)]
 
 ghost use Rattle.std.specs.Prelude.{◌≡◌};
-ghost use Rattle.answers.specs.Refusals.{or_refuse};
+ghost use Rattle.answers.specs.declared.OpenError.TheVariants.{Refused};
+ghost use Rattle.answers.specs.Returned.{number_of, open_number_of, refused_if};
 
 // The limit of specs/Limits.antt, under the same name.
 pub const PLACES: usize = 32;
 
-// The numbers of the refusals, as specs/Numbers.antt has them, under the same names.
-pub const INVALID_NAME: u8 = 1;
-
-pub const INVALID_TIMEOUT: u8 = 2;
-
-pub const INVALID_SET: u8 = 3;
-
-pub const INVALID_VERDICT: u8 = 4;
-
-pub const INVALID_CATALOGUE: u8 = 5;
-
-pub const INVALID_LOG: u8 = 6;
-
-pub const INVALID_NUMBER: u8 = 7;
-
-pub const INVALID_LENGTH: u8 = 8;
-
-pub const UNKNOWN_PRODUCER: u8 = 10;
-
-pub const WRONG_EPOCH: u8 = 11;
-
-pub const NOT_FLUSHED: u8 = 12;
-
-pub const WRONG_STATUS: u8 = 13;
-
-pub const BUSY: u8 = 14;
-
-pub const TOO_MANY_NAMES: u8 = 15;
-
-pub const PIDS_SPENT: u8 = 16;
-
-pub const NO_LOG_ROOM: u8 = 17;
-
-pub const NOT_JOINED: u8 = 18;
-
-pub const SEQUENCE_GAP: u8 = 19;
-
-pub const REPEATED_SEQUENCE: u8 = 20;
-
-pub const STALE_COORDINATOR: u8 = 21;
-
-pub const NO_PARTITION_ROOM: u8 = 22;
-
-// Add, End, Flush, Ack and Marker.
-#[derive(Clone, Copy)]
-pub enum Answer {
-    Done,
-    Refused(u8),
+// The refusals of document 01, in the order of their numbers. A bad log, its 6, has an offset and stands in `OpenError`.
+#[derive(Clone, Copy, Debug, PartialEq, Eq)]
+pub enum Refusal {
+    InvalidName,
+    InvalidTimeout,
+    InvalidSet,
+    InvalidVerdict,
+    InvalidCatalogue,
+    InvalidNumber,
+    InvalidLength,
+    UnknownProducer,
+    WrongEpoch,
+    NotFlushed,
+    WrongStatus,
+    Busy,
+    TooManyNames,
+    PidsSpent,
+    NoLogRoom,
+    NotJoined,
+    SequenceGap,
+    RepeatedSequence,
+    StaleCoordinator,
+    NoPartitionRoom,
 }
 
-// An opening; a bad log is refusal 6 with the offset of its first bad frame.
-#[derive(Clone, Copy)]
-pub enum OpenAnswer {
-    Opened,
-    BadLog(usize),
-    Refused(u8),
-}
+// The number of a refusal in document 01.
+impl From<Refusal> for u8 {
+    ghost from_gives = { λ refusal number. number ≡ number_of refusal };
 
-// Init: the pid and epoch of the producer, or that its transaction is being aborted.
-#[derive(Clone, Copy)]
-pub enum InitAnswer {
-    Given(i64, i16),
-    Aborting,
-    Refused(u8),
-}
-
-// Tick: the place that was aborted, or that none was due.
-#[derive(Clone, Copy)]
-pub enum TickAnswer {
-    Aborted(usize),
-    NoneDue,
-    Refused(u8),
-}
-
-// Order: what an order carries, with the coordinator's epoch; or that there is none to give.
-#[derive(Clone, Copy)]
-pub enum OrderAnswer {
-    Order {
-        place: usize,
-        pid: i64,
-        epoch: i16,
-        verdict: u64,
-        position: usize,
-        coordinator: i32,
-    },
-    NoOrder,
-}
-
-// Produce: the offset of the entry.
-#[derive(Clone, Copy)]
-pub enum ProduceAnswer {
-    Written(usize),
-    Refused(u8),
-}
-
-// Read: how many payloads were copied, and the next offset.
-#[derive(Clone, Copy)]
-pub enum ReadAnswer {
-    Copied(usize, usize),
-    Refused(u8),
-}
-
-// The first refusal with one test more: that of the tests before it, else its own number where it applies, and 0 where none does.
-pub fn or_refuse(earlier: u8, number: u8, applies: bool) -> u8
-    ensures { result ≡ or_refuse earlier number applies }
-{
-    if earlier != 0 {
-        return earlier;
+    fn from(refusal: Refusal) -> u8 {
+        match refusal {
+            Refusal::InvalidName => 1,
+            Refusal::InvalidTimeout => 2,
+            Refusal::InvalidSet => 3,
+            Refusal::InvalidVerdict => 4,
+            Refusal::InvalidCatalogue => 5,
+            Refusal::InvalidNumber => 7,
+            Refusal::InvalidLength => 8,
+            Refusal::UnknownProducer => 10,
+            Refusal::WrongEpoch => 11,
+            Refusal::NotFlushed => 12,
+            Refusal::WrongStatus => 13,
+            Refusal::Busy => 14,
+            Refusal::TooManyNames => 15,
+            Refusal::PidsSpent => 16,
+            Refusal::NoLogRoom => 17,
+            Refusal::NotJoined => 18,
+            Refusal::SequenceGap => 19,
+            Refusal::RepeatedSequence => 20,
+            Refusal::StaleCoordinator => 21,
+            Refusal::NoPartitionRoom => 22,
+        }
     }
-    if applies { number } else { 0 }
+}
+
+// Why an opening is refused: its log has a bad frame, whose offset is answered, or for another reason.
+#[derive(Clone, Copy, Debug, PartialEq, Eq)]
+pub enum OpenError {
+    BadLog { offset: usize },
+    Refused(Refusal),
+}
+
+impl From<Refusal> for OpenError {
+    ghost from_gives = { λ refusal error. error ≡ Refused refusal };
+
+    fn from(refusal: Refusal) -> OpenError {
+        OpenError::Refused(refusal)
+    }
+}
+
+// The number of a refused opening in document 01.
+impl From<OpenError> for u8 {
+    ghost from_gives = { λ error number. number ≡ open_number_of error };
+
+    fn from(error: OpenError) -> u8 {
+        match error {
+            OpenError::BadLog { offset: _ } => 6,
+            OpenError::Refused(refusal) => u8::from(refusal),
+        }
+    }
+}
+
+// What Init gives: the pid and epoch of the producer, or that its transaction is being aborted.
+#[derive(Clone, Copy, Debug, PartialEq, Eq)]
+pub enum Initialized {
+    Given { pid: i64, epoch: i16 },
+    Aborting,
+}
+
+// What an order carries, with the coordinator's epoch.
+#[derive(Clone, Copy, Debug, PartialEq, Eq)]
+pub struct Order {
+    pub place: usize,
+    pub pid: i64,
+    pub epoch: i16,
+    pub verdict: u64,
+    pub position: usize,
+    pub coordinator: i32,
+}
+
+// What Read gives: how many payloads were copied, and the next offset.
+#[derive(Clone, Copy, Debug, PartialEq, Eq)]
+pub struct Copied {
+    pub count: usize,
+    pub next: usize,
+}
+
+// One test of a call: its refusal, where it applies.
+pub fn refuse_if(applies: bool, refusal: Refusal) -> Result<(), Refusal>
+    ensures { result ≡ refused_if applies refusal }
+{
+    if applies {
+        return Err(refusal);
+    }
+    Ok(())
 }

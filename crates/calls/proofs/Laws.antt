@@ -7,14 +7,14 @@ use lib.Dec.{eqb}
 use lib.IntN.{ℤ}
 use Rattle.answers.specs.Answers.{Reply, reply, open_reply, read_reply}
 use Rattle.answers.specs.Refusals.{first_refusal, Decision}
-use Rattle.answers.specs.declared.Answer.{Answer}
-use Rattle.answers.specs.declared.Answer.TheVariants.{Refused}
-use Rattle.answers.specs.declared.ReadAnswer.{ReadAnswer}
+use Rattle.answers.specs.Answer.{Answer}
+use Rattle.answers.specs.Answer.{Refused}
+use Rattle.answers.specs.ReadAnswer.{ReadAnswer}
 use Rattle.answers.proofs.Laws.{unless-does}
 use Rattle.coordinator.specs.Coordinator.{Action, keep, after, log_after, Performed}
 use Rattle.coordinator.specs.Flush.{flush_tests, flush}
 use Rattle.coordinator.specs.Open.{opening}
-use Rattle.coordinator.specs.declared.OpenedLog.{OpenedLog}
+use Rattle.coordinator.specs.OpenedLog.{OpenedLog}
 use Rattle.coordinator.specs.declared.Coordinator.{Coordinator}
 use Rattle.partition.specs.Partition.{open_partition, Action as PartitionAction, after as partition_after, words_after, Performed as PartitionPerformed}
 use Rattle.partition.specs.Read.{read_answer, read_out}

@@ -11,7 +11,7 @@ use Rattle.numbers.proofs.Signed.{eq_z-true}
 use Rattle.row.specs.Row.{free, is_prepare, with_acknowledged}
 use Rattle.row.specs.Steps.{completed}
 use Rattle.answers.specs.Refusals.{first_refusal, numbers_of, among}
-use Rattle.answers.specs.declared.Answer.TheVariants.{Done, Refused}
+use Rattle.answers.specs.Answer.{Done, Refused}
 use Rattle.answers.proofs.Laws.{or-false-left, or-false-right, none-applies, unless-accepted, unless-refused}
 use Rattle.table.specs.Table.{row_at, reserved, with_row}
 use Rattle.table.proofs.Laws.{with-same}

@@ -14,7 +14,7 @@ use Rattle.row.specs.Limits.{epoch_max}
 use Rattle.row.specs.Row.{is_begin, is_prepare}
 use Rattle.row.specs.Steps.{begun, widened}
 use Rattle.answers.specs.Refusals.{first_refusal, numbers_of, among}
-use Rattle.answers.specs.declared.Answer.TheVariants.{Done, Refused}
+use Rattle.answers.specs.Answer.{Done, Refused}
 use Rattle.answers.proofs.Laws.{or-false-left, or-false-right, none-applies, none_is, unless-accepted}
 use Rattle.table.specs.Table.{id_count}
 use Rattle.coordinator.specs.Coordinator.{admits, place_of_name, row_of, holds_name, unflushed, clock_at, log_full, keep, advance, append}

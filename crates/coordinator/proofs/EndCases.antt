@@ -10,7 +10,7 @@ use Rattle.record.specs.Record.{name_fits}
 use Rattle.row.specs.Row.{is_begin, is_prepare}
 use Rattle.row.specs.Steps.{prepared, prepare_of, ended, raise}
 use Rattle.answers.specs.Refusals.{first_refusal, numbers_of, among}
-use Rattle.answers.specs.declared.Answer.TheVariants.{Done, Refused}
+use Rattle.answers.specs.Answer.{Done, Refused}
 use Rattle.answers.proofs.Laws.{none-applies, none_is, unless-accepted}
 use Rattle.coordinator.specs.Coordinator.{admits, place_of_name, row_of, holds_name, unflushed, clock_at, keep, append}
 use Rattle.coordinator.specs.End.{end_fits, end_row_tests, end_tests, end_action, end}

@@ -16,7 +16,7 @@ use Rattle.row.specs.Row.{is_begin, is_prepare}
 use Rattle.row.specs.Steps.{initialized, prepared, fenced, raise}
 use Rattle.answers.specs.Limits.{places}
 use Rattle.answers.specs.Refusals.{first_refusal, numbers_of, among}
-use Rattle.answers.specs.declared.InitAnswer.TheVariants.{Given, Aborting, Refused}
+use Rattle.answers.specs.InitAnswer.{Given, Aborting, Refused}
 use Rattle.answers.proofs.Laws.{none-applies, none_is, unless-accepted}
 use Rattle.table.specs.Table.{place_for, lowest_free}
 use Rattle.coordinator.specs.Coordinator.{admits, row_of, holds_name, unflushed, clock_at, new_pid, log_full, keep, append}

@@ -17,7 +17,7 @@ use Rattle.search.proofs.Each.{each_at, each-then, first-same}
 use Rattle.row.specs.Row.{free_row, is_prepare, outstanding}
 use Rattle.row.specs.declared.Row.{Row}
 use Rattle.answers.specs.Limits.{places}
-use Rattle.answers.specs.declared.OrderAnswer.TheVariants.{NoOrder}
+use Rattle.answers.specs.OrderAnswer.{NoOrder}
 use Rattle.table.specs.Table.{row_at}
 use Rattle.coordinator.specs.Coordinator.{unflushed}
 use Rattle.coordinator.specs.Order.{due, ordered, order_place, order_from, order}

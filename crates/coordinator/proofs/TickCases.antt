@@ -17,8 +17,8 @@ use Rattle.row.specs.Steps.{prepared, fenced, raise}
 use Rattle.row.specs.declared.Row.{Row}
 use Rattle.answers.specs.Limits.{places}
 use Rattle.answers.specs.Refusals.{first_refusal, numbers_of, among, Decision}
-use Rattle.answers.specs.declared.TickAnswer.{TickAnswer}
-use Rattle.answers.specs.declared.TickAnswer.TheVariants.{Aborted, NoneDue, Refused}
+use Rattle.answers.specs.TickAnswer.{TickAnswer}
+use Rattle.answers.specs.TickAnswer.{Aborted, NoneDue, Refused}
 use Rattle.answers.proofs.Laws.{none-applies, unless-accepted}
 use Rattle.table.specs.Table.{row_at}
 use Rattle.coordinator.specs.Coordinator.{admits, unflushed, clock_at, Action, keep, advance, append}

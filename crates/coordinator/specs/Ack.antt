@@ -8,8 +8,8 @@ use Rattle.row.specs.declared.Row.{Row}
 use Rattle.table.specs.Table.{row_at}
 use Rattle.answers.specs.Numbers.{invalid_set, invalid_length, unknown_producer, wrong_epoch, not_flushed, wrong_status, not_joined}
 use Rattle.answers.specs.Refusals.{Test, refuse, first_refusal, Decision, unless}
-use Rattle.answers.specs.declared.Answer.{Answer}
-use Rattle.answers.specs.declared.Answer.TheVariants.{Done, Refused}
+use Rattle.answers.specs.Answer.{Answer}
+use Rattle.answers.specs.Answer.{Done, Refused}
 use Rattle.coordinator.specs.Coordinator.{admits, unflushed, Action, keep, append, acknowledge}
 use Rattle.coordinator.specs.declared.Coordinator.{Coordinator}
 

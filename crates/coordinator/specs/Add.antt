@@ -10,8 +10,8 @@ use Rattle.row.specs.declared.Row.{Row}
 use Rattle.table.specs.Table.{id_count}
 use Rattle.answers.specs.Numbers.{invalid_name, invalid_set, invalid_length, unknown_producer, wrong_epoch, not_flushed, busy, no_log_room}
 use Rattle.answers.specs.Refusals.{Test, refuse, first_refusal, Decision, unless}
-use Rattle.answers.specs.declared.Answer.{Answer}
-use Rattle.answers.specs.declared.Answer.TheVariants.{Done, Refused}
+use Rattle.answers.specs.Answer.{Answer}
+use Rattle.answers.specs.Answer.{Done, Refused}
 use Rattle.coordinator.specs.Coordinator.{admits, place_of_name, row_of, not_held, unflushed, clock_at, log_full, Action, keep, advance, append}
 use Rattle.coordinator.specs.declared.Coordinator.{Coordinator}
 

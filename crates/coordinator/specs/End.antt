@@ -9,8 +9,8 @@ use Rattle.row.specs.Steps.{prepared, prepare_of, verdict_of, ended, raise}
 use Rattle.row.specs.declared.Row.{Row}
 use Rattle.answers.specs.Numbers.{invalid_name, invalid_verdict, invalid_length, unknown_producer, wrong_epoch, not_flushed, wrong_status, busy}
 use Rattle.answers.specs.Refusals.{Test, refuse, first_refusal, Decision, unless}
-use Rattle.answers.specs.declared.Answer.{Answer}
-use Rattle.answers.specs.declared.Answer.TheVariants.{Done, Refused}
+use Rattle.answers.specs.Answer.{Answer}
+use Rattle.answers.specs.Answer.{Done, Refused}
 use Rattle.coordinator.specs.Coordinator.{admits, place_of_name, row_of, not_held, unflushed, clock_at, Action, keep, advance, append}
 use Rattle.coordinator.specs.declared.Coordinator.{Coordinator}
 

@@ -14,8 +14,8 @@ use Rattle.answers.specs.Limits.{places}
 use Rattle.table.specs.Table.{place_for, lowest_free, id_count}
 use Rattle.answers.specs.Numbers.{invalid_name, invalid_timeout, invalid_length, not_flushed, busy, too_many_names, pids_spent, no_log_room}
 use Rattle.answers.specs.Refusals.{Test, refuse, first_refusal, Decision, unless}
-use Rattle.answers.specs.declared.InitAnswer.{InitAnswer}
-use Rattle.answers.specs.declared.InitAnswer.TheVariants.{Given, Aborting, Refused}
+use Rattle.answers.specs.InitAnswer.{InitAnswer}
+use Rattle.answers.specs.InitAnswer.{Given, Aborting, Refused}
 use Rattle.coordinator.specs.Coordinator.{admits, row_of, holds_name, unflushed, clock_at, new_pid, log_full, Action, keep, append}
 use Rattle.coordinator.specs.declared.Coordinator.{Coordinator}
 

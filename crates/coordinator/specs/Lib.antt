@@ -1,7 +1,7 @@
 -- Definitions of the crate coordinator: its state, and each of its calls; what a call changes; what a display shows.
 pub mod Coordinator
 pub mod Named
-pub mod Change
+pub mod OpenedLog
 pub mod Open
 pub mod OlderLogs
 pub mod Init

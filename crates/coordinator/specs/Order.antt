@@ -9,8 +9,8 @@ use Rattle.row.specs.Steps.{verdict_of}
 use Rattle.row.specs.declared.Row.{Row}
 use Rattle.answers.specs.Limits.{places}
 use Rattle.table.specs.Table.{row_at}
-use Rattle.answers.specs.declared.OrderAnswer.{OrderAnswer}
-use Rattle.answers.specs.declared.OrderAnswer.TheVariants.{Order, NoOrder}
+use Rattle.answers.specs.OrderAnswer.{OrderAnswer}
+use Rattle.answers.specs.OrderAnswer.{Order, NoOrder}
 use Rattle.coordinator.specs.Coordinator.{unflushed}
 use Rattle.coordinator.specs.declared.Coordinator.{Coordinator}
 

@@ -9,8 +9,8 @@ use Rattle.answers.specs.Limits.{places}
 use Rattle.table.specs.Table.{row_at}
 use Rattle.answers.specs.Numbers.{invalid_length}
 use Rattle.answers.specs.Refusals.{Test, refuse, first_refusal, Decision, unless}
-use Rattle.answers.specs.declared.TickAnswer.{TickAnswer}
-use Rattle.answers.specs.declared.TickAnswer.TheVariants.{Aborted, NoneDue, Refused}
+use Rattle.answers.specs.TickAnswer.{TickAnswer}
+use Rattle.answers.specs.TickAnswer.{Aborted, NoneDue, Refused}
 use Rattle.coordinator.specs.Coordinator.{admits, unflushed, clock_at, Action, keep, advance, append}
 use Rattle.coordinator.specs.declared.Coordinator.{Coordinator}
 

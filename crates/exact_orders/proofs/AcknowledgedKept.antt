@@ -21,7 +21,7 @@ use Rattle.search.proofs.Each.{each-then}
 use Rattle.search.proofs.Found.{some_same}
 use Rattle.search.proofs.Find.{find-in, find-hit, find-miss, find-fails, found-more}
 use Rattle.answers.specs.Refusals.{Decision}
-use Rattle.answers.specs.declared.Answer.{Answer}
+use Rattle.answers.specs.Answer.{Answer}
 use Rattle.row.specs.Row.{free, is_prepare, record_of}
 use Rattle.row.specs.Steps.{completed}
 use Rattle.row.specs.declared.Row.{Row}

@@ -34,10 +34,10 @@ use Rattle.record.specs.Longest.{widest_text}
 use Rattle.record.specs.declared.Status.TheVariants.{Begin, PrepareCommit, PrepareAbort}
 use Rattle.row.specs.Row.{is_begin}
 use Rattle.row.specs.declared.Row.{Row}
-use Rattle.answers.specs.declared.OpenAnswer.TheVariants.{Opened, Refused}
+use Rattle.answers.specs.OpenAnswer.{Opened, Refused}
 use Rattle.coordinator.specs.OlderLogs.{older_key_max, OpensWithin}
 use Rattle.coordinator.specs.Calls.{init_call, end_call, tick_call, ack_call}
-use Rattle.coordinator.specs.declared.OpenedLog.{OpenedLog}
+use Rattle.coordinator.specs.OpenedLog.{OpenedLog}
 use Rattle.server.specs.Calls.{Server, call, answer_of}
 use Rattle.server.specs.Admitted.{opened_with, Next, after_each}
 use Rattle.server.specs.RoomToEnd.{RoomToEnd}

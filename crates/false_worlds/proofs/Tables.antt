@@ -31,7 +31,7 @@ use Rattle.log_reader.specs.Records.{frames_of}
 use Rattle.log_reader.specs.Scan.{is_whole, scan_within}
 use Rattle.coordinator.specs.Coordinator.{admits}
 use Rattle.coordinator.specs.Open.{take_over_tests, open_tests, opening}
-use Rattle.coordinator.specs.declared.OpenedLog.{OpenedLog}
+use Rattle.coordinator.specs.OpenedLog.{OpenedLog}
 use Rattle.writable_logs.specs.RecordsSay.{has_name, names_of, reserve_of, greatest_update, pids_above, PlacesByAppearance, NumbersOf}
 use Rattle.writable_logs.specs.Writer.{CouldWrite}
 use Rattle.writable_logs.specs.Demand2.{Openable, InOrder, StartsWith, HoldsLatest, HoldsNoOther, ReadsBack, OpensAgain, TableSays}

@@ -23,8 +23,8 @@ use Rattle.row.specs.Steps.{initialized, prepared, fenced, raise}
 use Rattle.row.specs.declared.Row.{Row}
 use Rattle.answers.specs.Limits.{places}
 use Rattle.answers.specs.Refusals.{first_refusal, or_refuse, Decision}
-use Rattle.answers.specs.declared.InitAnswer.{InitAnswer}
-use Rattle.answers.specs.declared.InitAnswer.TheVariants.{Aborting, Refused}
+use Rattle.answers.specs.InitAnswer.{InitAnswer}
+use Rattle.answers.specs.InitAnswer.{Aborting, Refused}
 use Rattle.answers.proofs.Laws.{or-false-right, after_none, after_next_lem, after-all}
 use Rattle.table.specs.Table.{row_at, place_for, lowest_free, id_count}
 use Rattle.table.specs.declared.Held.{Held}

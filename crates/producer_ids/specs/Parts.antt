@@ -7,8 +7,8 @@ use Rattle.row.specs.Row.{is_begin}
 use Rattle.row.specs.Steps.{initialized, prepared, fenced, raise}
 use Rattle.row.specs.declared.Row.{Row}
 use Rattle.answers.specs.Limits.{places}
-use Rattle.answers.specs.declared.InitAnswer.{InitAnswer}
-use Rattle.answers.specs.declared.InitAnswer.TheVariants.{Given, Aborting}
+use Rattle.answers.specs.InitAnswer.{InitAnswer}
+use Rattle.answers.specs.InitAnswer.{Given, Aborting}
 use Rattle.table.specs.declared.Held.{Held}
 use Rattle.coordinator.specs.Coordinator.{Action, append}
 use Rattle.coordinator.specs.Init.{needs_pid}

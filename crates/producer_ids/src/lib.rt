@@ -1,7 +1,7 @@
 // Init: a producer takes a name and gets its pid and epoch.
 #![tactic(auto)]
 
-ghost use Rattle.std.specs.Prelude.{◌≡◌, true, false, cond, eqb, ltb, ◌+◌, ◌≤◌, ℤ, length};
+ghost use Rattle.std.specs.Prelude.{◌≡◌, true, false, cond, ltb, ◌+◌, ◌≤◌, ℤ, length};
 ghost use Rattle.std.specs.Int.{w16, w64};
 ghost use Rattle.numbers.specs.Signed.{signed_of};
 ghost use Rattle.numbers.specs.Padded.{padded};
@@ -10,16 +10,16 @@ ghost use Rattle.record.specs.Record.{name_fits};
 ghost use Rattle.row.specs.Row.{is_begin};
 ghost use Rattle.answers.specs.Limits.{places};
 ghost use Rattle.answers.specs.Refusals.{first_refusal};
-ghost use Rattle.answers.specs.declared.InitAnswer.TheVariants.{Given, Refused};
-ghost use Rattle.table.specs.Table.{row_at, lowest_free, id_count, reserved};
-ghost use Rattle.coordinator.specs.Coordinator.{log_end, admits, clock_at, new_pid, row_frame, Performed};
-ghost use Rattle.coordinator.specs.Change.{changed_by, unless_refused, ActionPerformed};
+ghost use Rattle.answers.specs.InitAnswer.{Given};
+ghost use Rattle.answers.specs.Returned.{refusal_of, init_given, init_answer_of};
+ghost use Rattle.table.specs.Table.{row_at, lowest_free};
+ghost use Rattle.coordinator.specs.Coordinator.{log_end, admits, clock_at, new_pid, row_frame, Performed, ActionPerformed};
 ghost use Rattle.coordinator.specs.Named.{FoundFor};
 ghost use Rattle.coordinator.specs.Init.{needs_pid, init_row, init_tests, init};
 ghost use Rattle.producer_ids.specs.Parts.{init_row_with, init_at, init_answer_at};
 
-use answers::InitAnswer;
-use coordinator::{Change, Coordinator, Initialized};
+use answers::{Initialized, Refusal};
+use coordinator::Coordinator;
 use numbers::Integer;
 use row::Row;
 use table::Held;
@@ -32,11 +32,10 @@ fn needs_pid(known: bool, row: Row) -> bool
 }
 
 // The lowest pid that was given to no producer.
-fn new_pid(s: Coordinator) -> u64
-    ensures { result ≡ new_pid s }
+fn new_pid(s: &Coordinator) -> u64
+    ensures { result ≡ new_pid s.now }
 {
-    let table = s.table;
-    s.first.max(table.next)
+    s.first.max(s.table.next)
 }
 
 // The record of Init: a new pid, or the next epoch of the same.
@@ -59,13 +58,13 @@ fn init_row_with(
 
 // The record of Init for a name whose place and row were found.
 fn init_row(
-    s: Coordinator,
+    s: &Coordinator,
     name: [u8; record::NAME_MAX],
     held: Held,
     timeout: i32,
     time: i64,
 ) -> Row
-    ensures { result ≡ init_row s name (ltb held.place places) held.row timeout time }
+    ensures { result ≡ init_row s.now name (ltb held.place places) held.row timeout time }
 {
     let row = held.row;
     let clock = numbers::later(s.clock, time);
@@ -100,110 +99,82 @@ fn place_for(place: usize, free: usize) -> usize
     free
 }
 
-// The number of the refusal of Init with this new record, 0 where there is none. Only for `init`, which has found the place of the name and counted the rows.
-fn init_refusal(
-    s: Coordinator,
+// The tests of Init with this new record. Only for `init`, which has found the place of the name and the lowest free one.
+fn check_init(
+    s: &Coordinator,
     n: usize,
-    reserve: usize,
-    ids: usize,
-    free: usize,
     name: &[u8],
     held: Held,
+    free: usize,
     new: Row,
     timeout: i32,
-) -> u8
-    requires { (reserve ≡ reserved s.table) × ((ids ≡ id_count s.table) × (ids ≤ places)) × (free ≡ lowest_free s.table) × FoundFor s name.now held }
-    ensures { (time : ℤ) → (name_fits name.now ≡ true → new ≡ init_row s (padded name_max name.now) (ltb held.place places) held.row timeout time) → result ≡ first_refusal (init_tests s n name.now timeout time) }
+) -> Result<(), Refusal>
+    requires { (free ≡ lowest_free s.now.table) × FoundFor s.now name.now held }
+    ensures { (time : ℤ) → (name_fits name.now ≡ true → new ≡ init_row s.now (padded name_max name.now) (ltb held.place places) held.row timeout time) → refusal_of result ≡ first_refusal (init_tests s.now n name.now timeout time) }
 {
-    let first = coordinator::name_refusal(s, n, reserve, name);
-    if first != 0 {
-        return first;
-    }
+    coordinator::check_name(s, n, name)?;
     let row = held.row;
-    let status = row.status;
-    let timed = record::timeout_fits(timeout);
     let unflushed = s.flushed < row.end;
-    let prepare = row::is_prepare(status);
-    let begin = row::is_begin(status);
+    let prepare = row::is_prepare(row.status);
+    let begin = row::is_begin(row.status);
     let place = place_for(held.place, free);
     let spent = s.last < new_pid(s);
     let needed = needs_pid(held.place < answers::PLACES, row);
-    let full = coordinator::log_full(s, new, ids_then(ids, held.place));
-    let r = answers::or_refuse(0, answers::INVALID_TIMEOUT, !timed);
-    let r = answers::or_refuse(r, answers::NOT_FLUSHED, unflushed);
-    let r = answers::or_refuse(r, answers::BUSY, prepare);
-    let r = answers::or_refuse(r, answers::TOO_MANY_NAMES, !(place < answers::PLACES));
-    let r = answers::or_refuse(r, answers::PIDS_SPENT, !begin & needed & spent);
-    answers::or_refuse(r, answers::NO_LOG_ROOM, !begin & full)
+    let full = coordinator::log_full(s, new, ids_then(table::id_count(&s.table), held.place));
+    answers::refuse_if(!record::timeout_fits(timeout), Refusal::InvalidTimeout)
+        .and(answers::refuse_if(unflushed, Refusal::NotFlushed))
+        .and(answers::refuse_if(prepare, Refusal::Busy))
+        .and(answers::refuse_if(!(place < answers::PLACES), Refusal::TooManyNames))
+        .and(answers::refuse_if(!begin & needed & spent, Refusal::PidsSpent))
+        .and(answers::refuse_if(!begin & full, Refusal::NoLogRoom))
 }
 
-// What Init with this refusal and this new record changes. Only for `init`, whose tests leave what it requires where there is none.
-fn init_change(
-    s: Coordinator,
+// What Init that appended this record gives: its pid and epoch.
+fn given(new: Row) -> Initialized
+    ensures { init_given result ≡ Given (signed_of w64 new.pid) (signed_of w16 new.epoch) }
+{
+    Initialized::Given {
+        pid: numbers::to_signed::<i64>(new.pid),
+        epoch: numbers::to_signed::<i16>(new.epoch as u64),
+    }
+}
+
+// What Init does with this new record. Only for `init`, whose tests leave what it requires.
+fn perform_init(
+    s: &mut Coordinator,
     log: &mut [u8],
     held: Held,
     free: usize,
-    refusal: u8,
     new: Row,
     time: i64,
-) -> Change
-    requires { refusal ≡ 0 → (admits s (length log.old) ≡ true) × (held.row ≡ row_at s.table held.place) × (is_begin held.row.status ≡ false → log_end s + length (row_frame s new) ≤ length log.old) }
-    ensures { ActionPerformed (unless_refused refusal (init_at held free new (clock_at s time))) s log.old (changed_by s result) log.new }
+) -> Initialized
+    requires { (admits s.old (length log.old) ≡ true) × (held.row ≡ row_at s.old.table held.place) × (is_begin held.row.status ≡ false → log_end s.old + length (row_frame s.old new) ≤ length log.old) }
+    ensures answer { init_given result ≡ init_answer_at held.row new }
+    ensures action { ActionPerformed (init_at held free new (clock_at s.old time)) s.old log.old s.new log.new }
 {
-    if refusal != 0 {
-        return coordinator::unchanged(s);
+    if row::is_begin(held.row.status) {
+        let fenced = coordinator::fence(held.row, numbers::later(s.clock, time));
+        coordinator::append(s, held.place, fenced, log);
+        return Initialized::Aborting;
     }
-    let catalogue = s.catalogue;
-    let row = held.row;
-    let status = row.status;
-    if row::is_begin(status) {
-        let fenced = coordinator::fence(row, numbers::later(s.clock, time));
-        let end = coordinator::write_row(catalogue, fenced, log, s.table.end);
-        return coordinator::appended(s, held.place, fenced, end);
-    }
-    let end = coordinator::write_row(catalogue, new, log, s.table.end);
-    coordinator::appended(s, place_for(held.place, free), new, end)
-}
-
-// The answer of Init that appended this record: its pid and epoch.
-fn given(new: Row) -> InitAnswer
-    ensures { result ≡ Given (signed_of w64 new.pid) (signed_of w16 new.epoch) }
-{
-    let pid = numbers::to_signed::<i64>(new.pid);
-    let epoch = numbers::to_signed::<i16>(new.epoch as u64);
-    InitAnswer::Given(pid, epoch)
-}
-
-// The answer of Init with this refusal, for the row that was found and the new record.
-fn init_answer(refusal: u8, row: Row, new: Row) -> InitAnswer
-    ensures { result ≡ cond (eqb refusal 0) (init_answer_at row new) (Refused refusal) }
-{
-    if refusal != 0 {
-        return InitAnswer::Refused(refusal);
-    }
-    let status = row.status;
-    if row::is_begin(status) {
-        return InitAnswer::Aborting;
-    }
+    coordinator::append(s, place_for(held.place, free), new, log);
     given(new)
 }
 
 // Init: a producer takes a name, with a new epoch or a new pid.
-pub fn init(s: Coordinator, log: &mut [u8], name: &[u8], timeout: i32, time: i64) -> Initialized
-    ensures { Performed (init s (length log.old) name.now timeout time) s log.old result.answer result.state log.new }
+pub fn init(
+    s: &mut Coordinator,
+    log: &mut [u8],
+    name: &[u8],
+    timeout: i32,
+    time: i64,
+) -> Result<Initialized, Refusal>
+    ensures { Performed (init s.old (length log.old) name.now timeout time) s.old log.old (init_answer_of result) s.new log.new }
 {
-    let table = s.table;
-    let reserve = table::reserved(table);
-    let ids = table::id_count(table);
-    let free = table::lowest_free(table);
+    let free = table::lowest_free(&s.table);
     let own = record::padded_name(name);
-    let held = table::find(table, own);
+    let held = table::find(&s.table, own);
     let new = init_row(s, own, held, timeout, time);
-    let refusal = init_refusal(s, log.len(), reserve, ids, free, name, held, new, timeout);
-    let change = init_change(s, log, held, free, refusal, new, time);
-    let row = held.row;
-    Initialized {
-        answer: init_answer(refusal, row, new),
-        state: coordinator::changed(s, table, change),
-    }
+    check_init(s, log.len(), name, held, free, new, timeout)?;
+    Ok(perform_init(s, log, held, free, new, time))
 }

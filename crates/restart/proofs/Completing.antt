@@ -22,8 +22,8 @@ use Rattle.search.proofs.Find.{find-in}
 use Rattle.answers.specs.Limits.{places}
 use Rattle.answers.specs.Answers.{reply}
 use Rattle.answers.specs.Refusals.{Decision}
-use Rattle.answers.specs.declared.Answer.{Answer}
-use Rattle.answers.specs.declared.OrderAnswer.{OrderAnswer}
+use Rattle.answers.specs.Answer.{Answer}
+use Rattle.answers.specs.OrderAnswer.{OrderAnswer}
 use Rattle.row.specs.Row.{free_row, is_prepare, outstanding, with_acknowledged, with_end}
 use Rattle.row.specs.Steps.{completed}
 use Rattle.row.specs.declared.Row.{Row}

@@ -18,8 +18,8 @@ use Rattle.search.proofs.Each.{each-place}
 use Rattle.answers.specs.Limits.{places}
 use Rattle.answers.specs.Answers.{reply, order_reply}
 use Rattle.answers.specs.Refusals.{first_refusal, Decision}
-use Rattle.answers.specs.declared.Answer.{Answer}
-use Rattle.answers.specs.declared.Answer.TheVariants.{Refused}
+use Rattle.answers.specs.Answer.{Answer}
+use Rattle.answers.specs.Answer.{Refused}
 use Rattle.answers.proofs.Laws.{unless-accepted}
 use Rattle.row.specs.Row.{is_prepare}
 use Rattle.row.proofs.Laws.{prepare-code}

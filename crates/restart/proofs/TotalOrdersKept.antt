@@ -20,7 +20,7 @@ use Rattle.record.specs.Record.{status_code}
 use Rattle.search.specs.Search.{found}
 use Rattle.search.proofs.Members.{In, each_in}
 use Rattle.answers.specs.Refusals.{Decision}
-use Rattle.answers.specs.declared.Answer.{Answer}
+use Rattle.answers.specs.Answer.{Answer}
 use Rattle.row.specs.Row.{is_prepare, outstanding, record_of}
 use Rattle.row.specs.Steps.{completed}
 use Rattle.row.specs.declared.Row.{Row}

@@ -1,3 +1,2 @@
 -- Laws of the crate row.
 pub mod Laws
-mod RowSteps

@@ -31,8 +31,8 @@ use Rattle.coordinator.specs.Order.{order}
 use Rattle.coordinator.proofs.OpenCases.{any-numbers, open-number}
 use Rattle.coordinator.proofs.OrderCases.{order_same}
 use Rattle.partition.specs.Limits.{entry_words}
-use Rattle.answers.specs.declared.ReadAnswer.{ReadAnswer}
-use Rattle.answers.specs.declared.ReadAnswer.TheVariants.{Copied, Refused as ReadRefused}
+use Rattle.answers.specs.ReadAnswer.{ReadAnswer}
+use Rattle.answers.specs.ReadAnswer.{Copied, Refused as ReadRefused}
 use Rattle.partition.specs.Read.{read_answer, read_out}
 use Rattle.log_reader.specs.Records.{frames_of}
 use Rattle.runs.specs.History.{Order, Produced, History, orders_in, given_in, produced_in, markers_in, collect, WithBefore, collect_with_before, Logged, records_of, contents, end_of, flushed_of, epoch_opened, record_numbered, latest_of, next_of, listed, is_completed, completed_prepares, pending_prepares, transaction, marker_over, carried_for, markers_for, words_of}

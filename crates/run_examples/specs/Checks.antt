@@ -20,8 +20,8 @@ use Rattle.coordinator.specs.Order.{order}
 use Rattle.coordinator.specs.Calls.{ack_call, answered}
 use Rattle.partition.specs.Limits.{entry_words}
 use Rattle.partition.specs.Marker.{marker}
-use Rattle.answers.specs.declared.ReadAnswer.{ReadAnswer}
-use Rattle.answers.specs.declared.ReadAnswer.TheVariants.{Copied, Refused as ReadRefused}
+use Rattle.answers.specs.ReadAnswer.{ReadAnswer}
+use Rattle.answers.specs.ReadAnswer.{Copied, Refused as ReadRefused}
 use Rattle.partition.specs.Partition.{stable_end}
 use Rattle.partition.specs.Read.{read_answer, read_out}
 use Rattle.log_reader.specs.Records.{frames_of}

@@ -8,7 +8,7 @@ use Rattle.answers.specs.Answers.{open_reply}
 use Rattle.catalogue.specs.Catalogue.{parse}
 use Rattle.coordinator.specs.Coordinator.{log_end}
 use Rattle.coordinator.specs.Open.{opening}
-use Rattle.coordinator.specs.declared.OpenedLog.{OpenedLog}
+use Rattle.coordinator.specs.OpenedLog.{OpenedLog}
 use Rattle.log_reader.specs.Records.{frames_of}
 use Rattle.server.specs.Lines.{scan_text}
 use Rattle.runs.specs.History.{Order, Logged, collect, carried_in, markers_in, flushed_prepares, pending_prepares, completed_prepares, transaction}

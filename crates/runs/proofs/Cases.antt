@@ -8,8 +8,8 @@ use lib.ListN.{length, set}
 use lib.Signed.{le_z}
 use borrow.Author.Tests.{eqb-true, eqb-false}
 use Rattle.numbers.proofs.Tests.{by_cases}
-use Rattle.answers.specs.declared.OrderAnswer.{OrderAnswer}
-use Rattle.answers.specs.declared.OrderAnswer.TheVariants.{Order as Ordered, NoOrder}
+use Rattle.answers.specs.OrderAnswer.{OrderAnswer}
+use Rattle.answers.specs.OrderAnswer.{Order as Ordered, NoOrder}
 use Rattle.coordinator.specs.Coordinator.{log_end, Action}
 use Rattle.coordinator.specs.Open.{opening}
 use Rattle.coordinator.specs.declared.Coordinator.{Coordinator}

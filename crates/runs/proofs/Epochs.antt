@@ -19,15 +19,15 @@ use Rattle.record.specs.Limits.{name_max}
 use Rattle.record.specs.Reading.{Reading, Whole, Torn, Bad, read_frame}
 use Rattle.search.specs.Search.{Each}
 use Rattle.answers.specs.Limits.{places}
-use Rattle.answers.specs.declared.OrderAnswer.{OrderAnswer}
-use Rattle.answers.specs.declared.OrderAnswer.TheVariants.{Order as Ordered, NoOrder}
+use Rattle.answers.specs.OrderAnswer.{OrderAnswer}
+use Rattle.answers.specs.OrderAnswer.{Order as Ordered, NoOrder}
 use Rattle.answers.proofs.Laws.{or-false-left}
 use Rattle.coordinator.specs.Coordinator.{Action, keep, advance, append, acknowledge as acknowledged, flush_to, appended, acknowledged as acknowledged_at, after}
 use Rattle.coordinator.specs.Open.{opening}
 use Rattle.coordinator.specs.Order.{order_place, order}
 use Rattle.coordinator.specs.Calls.{ack_call, action_of}
 use Rattle.coordinator.specs.declared.Coordinator.{Coordinator}
-use Rattle.coordinator.specs.declared.OpenedLog.{OpenedLog}
+use Rattle.coordinator.specs.OpenedLog.{OpenedLog}
 use Rattle.coordinator.proofs.OpenCases.{open-number, opening-taken}
 use Rattle.partition.specs.Partition.{Action as PartitionAction, keep as keep_partition, note, write}
 use Rattle.partition.specs.Marker.{marker}

@@ -14,9 +14,9 @@ use Rattle.numbers.specs.Padded.{padded}
 use Rattle.record.specs.Limits.{name_max}
 use Rattle.answers.specs.Answers.{order_reply, produce_reply}
 use Rattle.answers.specs.Refusals.{first_refusal, Decision}
-use Rattle.answers.specs.declared.OrderAnswer.{OrderAnswer}
-use Rattle.answers.specs.declared.OrderAnswer.TheVariants.{Order as Ordered, NoOrder}
-use Rattle.answers.specs.declared.ProduceAnswer.{ProduceAnswer}
+use Rattle.answers.specs.OrderAnswer.{OrderAnswer}
+use Rattle.answers.specs.OrderAnswer.{Order as Ordered, NoOrder}
+use Rattle.answers.specs.ProduceAnswer.{ProduceAnswer}
 use Rattle.coordinator.specs.Coordinator.{after}
 use Rattle.coordinator.specs.Open.{opening}
 use Rattle.coordinator.specs.Order.{order}

@@ -4,7 +4,7 @@ use mathlib.Core.Path.{◌≡◌, refl}
 use mathlib.Core.Bool.{false}
 use Rattle.numbers.proofs.Tests.{not-both}
 use Rattle.answers.specs.Refusals.{first_refusal}
-use Rattle.answers.specs.declared.Answer.TheVariants.{Refused}
+use Rattle.answers.specs.Answer.{Refused}
 use Rattle.answers.proofs.Laws.{unless-does}
 use Rattle.coordinator.specs.Coordinator.{Action, keep, log_after}
 use Rattle.coordinator.specs.Flush.{flush_tests, flush}

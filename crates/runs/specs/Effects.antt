@@ -8,8 +8,8 @@ use Rattle.record.specs.Limits.{name_max}
 use Rattle.row.specs.Row.{record_of}
 use Rattle.table.specs.Table.{row_at}
 use Rattle.answers.specs.Answers.{Reply, reply}
-use Rattle.answers.specs.declared.OrderAnswer.{OrderAnswer}
-use Rattle.answers.specs.declared.OrderAnswer.TheVariants.{Order as Ordered, NoOrder}
+use Rattle.answers.specs.OrderAnswer.{OrderAnswer}
+use Rattle.answers.specs.OrderAnswer.{Order as Ordered, NoOrder}
 use Rattle.coordinator.specs.Coordinator.{log_end, row_frame, Action, keep, advance, append, acknowledge as acknowledged, flush_to, after}
 use Rattle.coordinator.specs.Open.{opening}
 use Rattle.coordinator.specs.Calls.{ack_call, action_of, Writer, acts}

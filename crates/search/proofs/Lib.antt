@@ -5,3 +5,4 @@ pub mod Found
 pub mod Members
 pub mod Find
 pub mod SameFirst
+pub mod Std

@@ -11,14 +11,14 @@ use borrow.Author.Tests.{eqb-true, eq-eqb}
 use Rattle.numbers.proofs.Tests.{by_cases}
 use Rattle.answers.specs.Answers.{reply, open_reply, init_reply, tick_reply, produce_reply}
 use Rattle.answers.specs.Refusals.{Test, refuse, first_refusal, numbers_of, among, Decision, unless}
-use Rattle.answers.specs.declared.Answer.{Answer}
-use Rattle.answers.specs.declared.Answer.TheVariants.{Refused}
-use Rattle.answers.specs.declared.InitAnswer.{InitAnswer}
-use Rattle.answers.specs.declared.InitAnswer.TheVariants.{Refused as InitRefused}
-use Rattle.answers.specs.declared.TickAnswer.{TickAnswer}
-use Rattle.answers.specs.declared.TickAnswer.TheVariants.{Refused as TickRefused}
-use Rattle.answers.specs.declared.ProduceAnswer.{ProduceAnswer}
-use Rattle.answers.specs.declared.ProduceAnswer.TheVariants.{Refused as ProduceRefused}
+use Rattle.answers.specs.Answer.{Answer}
+use Rattle.answers.specs.Answer.{Refused}
+use Rattle.answers.specs.InitAnswer.{InitAnswer}
+use Rattle.answers.specs.InitAnswer.{Refused as InitRefused}
+use Rattle.answers.specs.TickAnswer.{TickAnswer}
+use Rattle.answers.specs.TickAnswer.{Refused as TickRefused}
+use Rattle.answers.specs.ProduceAnswer.{ProduceAnswer}
+use Rattle.answers.specs.ProduceAnswer.{Refused as ProduceRefused}
 use Rattle.answers.proofs.Laws.{first_passes, first-other, unless-number, unless-does}
 use Rattle.coordinator.specs.Coordinator.{admits, Action, keep, after}
 use Rattle.coordinator.specs.Open.{opening}

@@ -10,18 +10,18 @@ use borrow.Author.Tests.{eqb-true}
 use Rattle.numbers.proofs.Tests.{by_cases}
 use Rattle.answers.specs.Answers.{reply, init_reply, tick_reply, order_reply, produce_reply, read_reply}
 use Rattle.answers.specs.Refusals.{Test, first_refusal, numbers_of, among, Decision, unless}
-use Rattle.answers.specs.declared.Answer.{Answer}
-use Rattle.answers.specs.declared.Answer.TheVariants.{Refused}
-use Rattle.answers.specs.declared.InitAnswer.{InitAnswer}
-use Rattle.answers.specs.declared.InitAnswer.TheVariants.{Refused as InitRefused}
-use Rattle.answers.specs.declared.TickAnswer.{TickAnswer}
-use Rattle.answers.specs.declared.TickAnswer.TheVariants.{Refused as TickRefused}
-use Rattle.answers.specs.declared.OrderAnswer.{OrderAnswer}
-use Rattle.answers.specs.declared.ReadAnswer.{ReadAnswer}
+use Rattle.answers.specs.Answer.{Answer}
+use Rattle.answers.specs.Answer.{Refused}
+use Rattle.answers.specs.InitAnswer.{InitAnswer}
+use Rattle.answers.specs.InitAnswer.{Refused as InitRefused}
+use Rattle.answers.specs.TickAnswer.{TickAnswer}
+use Rattle.answers.specs.TickAnswer.{Refused as TickRefused}
+use Rattle.answers.specs.OrderAnswer.{OrderAnswer}
+use Rattle.answers.specs.ReadAnswer.{ReadAnswer}
 use Rattle.answers.specs.Limits.{places}
 use Rattle.row.specs.Row.{is_begin}
-use Rattle.answers.specs.declared.ProduceAnswer.{ProduceAnswer}
-use Rattle.answers.specs.declared.ProduceAnswer.TheVariants.{Refused as ProduceRefused}
+use Rattle.answers.specs.ProduceAnswer.{ProduceAnswer}
+use Rattle.answers.specs.ProduceAnswer.{Refused as ProduceRefused}
 use Rattle.answers.proofs.Laws.{first-among, unless-keeps, unless-number}
 use Rattle.coordinator.specs.Coordinator.{row_of, clock_at, Action, keep}
 use Rattle.log_reader.specs.Read.{read_tests}

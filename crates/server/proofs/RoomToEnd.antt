@@ -13,8 +13,8 @@ use Rattle.table.specs.Room.{room_to_end}
 use Rattle.table.proofs.Reserve.{reserved-counted}
 use Rattle.answers.specs.Answers.{init_reply}
 use Rattle.answers.specs.Refusals.{first_refusal, among}
-use Rattle.answers.specs.declared.InitAnswer.{InitAnswer}
-use Rattle.answers.specs.declared.InitAnswer.TheVariants.{Refused as InitRefused}
+use Rattle.answers.specs.InitAnswer.{InitAnswer}
+use Rattle.answers.specs.InitAnswer.{Refused as InitRefused}
 use Rattle.answers.proofs.Laws.{first-none-of, unless-number}
 use Rattle.coordinator.specs.Coordinator.{log_end, row_of, holds_name, log_full, keep}
 use Rattle.coordinator.specs.Calls.{init_call, add_call, end_call, tick_call, flush_call, ack_call}

@@ -15,13 +15,13 @@ use Rattle.coordinator.specs.Coordinator.{Action, after, log_after, Performed as
 use Rattle.coordinator.specs.declared.Coordinator.{Coordinator}
 use Rattle.partition.specs.Partition.{Action as PartitionAction, Performed as PartitionPerformed, open_partition}
 use Rattle.partition.specs.Read.{read_answer, read_out}
-use Rattle.answers.specs.declared.ReadAnswer.{ReadAnswer}
+use Rattle.answers.specs.ReadAnswer.{ReadAnswer}
 use Rattle.partition.specs.declared.Partition.{Partition}
 use Rattle.coordinator.specs.Open.{opening}
 use Rattle.coordinator.specs.Flush.{flush, flush_tests}
-use Rattle.coordinator.specs.declared.OpenedLog.{OpenedLog}
+use Rattle.coordinator.specs.OpenedLog.{OpenedLog}
 use Rattle.numbers.proofs.Tests.{by_cases}
-use Rattle.answers.specs.declared.Answer.{Answer}
+use Rattle.answers.specs.Answer.{Answer}
 use Rattle.server.specs.Lines.{catalogue_text}
 use Rattle.command.specs.declared.Command.{Command}
 use Rattle.command.specs.declared.Command.TheVariants.{Init, Add, End, Tick, Flush, Put, Carry, Read, Cut, Left, Unknown}
@@ -29,8 +29,8 @@ use denote.Enum.Declared.{tag_of}
 use types.Run.{OneOf, miss}
 use Rattle.command.specs.contracts.Command.{the_type}
 use Rattle.fields.specs.declared.Part.{Part}
-use Rattle.answers.specs.declared.OrderAnswer.{OrderAnswer}
-use Rattle.answers.specs.declared.OrderAnswer.TheVariants.{Order, NoOrder}
+use Rattle.answers.specs.OrderAnswer.{OrderAnswer}
+use Rattle.answers.specs.OrderAnswer.{Order, NoOrder}
 use Rattle.server.specs.Calls.{coordinator_does, partition_does, with_coordinator, read_call}
 use Rattle.session.specs.Limits.{partitions, first_pid, last_pid, first_epoch}
 use Rattle.session.specs.Memory.{Memory, memory, opened, partition_at, share, words_at, with_words, server_at, with_server}

@@ -11,18 +11,18 @@ use Rattle.numbers.proofs.Tests.{by_cases, not-both, or-either}
 use Rattle.bits.specs.Bits.{member}
 use Rattle.answers.specs.Answers.{Reply, reply, refused, init_reply, tick_reply, produce_reply, read_reply}
 use Rattle.answers.specs.Refusals.{among}
-use Rattle.answers.specs.declared.Answer.{Answer}
-use Rattle.answers.specs.declared.Answer.TheVariants.{Done, Refused}
-use Rattle.answers.specs.declared.InitAnswer.{InitAnswer}
-use Rattle.answers.specs.declared.InitAnswer.TheVariants.{Given, Aborting, Refused as InitRefused}
-use Rattle.answers.specs.declared.TickAnswer.{TickAnswer}
-use Rattle.answers.specs.declared.TickAnswer.TheVariants.{Aborted, NoneDue, Refused as TickRefused}
-use Rattle.answers.specs.declared.ProduceAnswer.{ProduceAnswer}
-use Rattle.answers.specs.declared.ProduceAnswer.TheVariants.{Written, Refused as ProduceRefused}
-use Rattle.answers.specs.declared.ReadAnswer.{ReadAnswer}
-use Rattle.answers.specs.declared.ReadAnswer.TheVariants.{Copied, Refused as ReadRefused}
-use Rattle.answers.specs.declared.OrderAnswer.{OrderAnswer}
-use Rattle.answers.specs.declared.OrderAnswer.TheVariants.{Order, NoOrder}
+use Rattle.answers.specs.Answer.{Answer}
+use Rattle.answers.specs.Answer.{Done, Refused}
+use Rattle.answers.specs.InitAnswer.{InitAnswer}
+use Rattle.answers.specs.InitAnswer.{Given, Aborting, Refused as InitRefused}
+use Rattle.answers.specs.TickAnswer.{TickAnswer}
+use Rattle.answers.specs.TickAnswer.{Aborted, NoneDue, Refused as TickRefused}
+use Rattle.answers.specs.ProduceAnswer.{ProduceAnswer}
+use Rattle.answers.specs.ProduceAnswer.{Written, Refused as ProduceRefused}
+use Rattle.answers.specs.ReadAnswer.{ReadAnswer}
+use Rattle.answers.specs.ReadAnswer.{Copied, Refused as ReadRefused}
+use Rattle.answers.specs.OrderAnswer.{OrderAnswer}
+use Rattle.answers.specs.OrderAnswer.{Order, NoOrder}
 use Rattle.coordinator.specs.Coordinator.{log_end}
 use Rattle.coordinator.specs.Order.{order}
 use Rattle.coordinator.specs.Init.{init}

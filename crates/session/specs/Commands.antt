@@ -3,10 +3,10 @@ use Rattle.std.specs.Prelude.{ℕ, ◌+◌, ◌≡◌, cond, List, [], ◌∷◌
 use Rattle.bits.specs.Bits.{member}
 use Rattle.answers.specs.Numbers.{invalid_set, invalid_number}
 use Rattle.answers.specs.Answers.{Reply, accepted, refused}
-use Rattle.answers.specs.declared.OrderAnswer.{OrderAnswer}
-use Rattle.answers.specs.declared.OrderAnswer.TheVariants.{Order, NoOrder}
-use Rattle.answers.specs.declared.ReadAnswer.{ReadAnswer}
-use Rattle.answers.specs.declared.ReadAnswer.TheVariants.{Copied, Refused}
+use Rattle.answers.specs.OrderAnswer.{OrderAnswer}
+use Rattle.answers.specs.OrderAnswer.{Order, NoOrder}
+use Rattle.answers.specs.ReadAnswer.{ReadAnswer}
+use Rattle.answers.specs.ReadAnswer.{Copied, Refused}
 use Rattle.coordinator.specs.Coordinator.{log_end}
 use Rattle.coordinator.specs.Order.{order}
 use Rattle.coordinator.specs.Left.{left}

@@ -1,8 +1,8 @@
 -- Demand 1 for commands: a command answers 0 or one of its refusals, and what is refused changes nothing; of a `carry` it is said what stays.
 use Rattle.std.specs.Prelude.{ℕ, ◌≡◌, true, List, [], ◌∷◌, ◌++◌, ℤ}
 use Rattle.answers.specs.Refusals.{among}
-use Rattle.answers.specs.declared.OrderAnswer.{OrderAnswer}
-use Rattle.answers.specs.declared.OrderAnswer.TheVariants.{Order, NoOrder}
+use Rattle.answers.specs.OrderAnswer.{OrderAnswer}
+use Rattle.answers.specs.OrderAnswer.{Order, NoOrder}
 use Rattle.coordinator.specs.Coordinator.{log_end}
 use Rattle.coordinator.specs.Order.{order}
 use Rattle.coordinator.specs.Calls.{init_call, add_call, end_call, tick_call, flush_call, ack_call}

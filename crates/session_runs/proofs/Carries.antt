@@ -8,8 +8,8 @@ use lib.ListN.{length, get_or, set}
 use borrow.Author.Tests.{eq-eqb}
 use Rattle.bits.specs.Bits.{member}
 use Rattle.answers.specs.Answers.{reply}
-use Rattle.answers.specs.declared.OrderAnswer.{OrderAnswer}
-use Rattle.answers.specs.declared.OrderAnswer.TheVariants.{Order as Ordered, NoOrder}
+use Rattle.answers.specs.OrderAnswer.{OrderAnswer}
+use Rattle.answers.specs.OrderAnswer.{Order as Ordered, NoOrder}
 use Rattle.coordinator.specs.Order.{order}
 use Rattle.coordinator.specs.Ack.{ack}
 use Rattle.coordinator.specs.Calls.{ack_call, is_word}

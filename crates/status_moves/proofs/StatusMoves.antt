@@ -14,7 +14,7 @@ use Rattle.row.specs.declared.Row.{Row}
 use Rattle.succession.specs.Moves.{may_follow_status, statuses, move_flag}
 use Rattle.succession.specs.Succession.{keeps, follows}
 use Rattle.succession.proofs.Laws.{first-new}
-use Rattle.succession.proofs.Moves.{moves-are}
+use Rattle.succession.proofs.Moves.{moves_are}
 use Rattle.answers.specs.Limits.{places}
 use Rattle.table.specs.Next.{may_come}
 use Rattle.table.specs.Table.{row_at, place_of, holds}
@@ -34,7 +34,7 @@ use Rattle.status_moves.proofs.Witnesses.{set-follows}
 follows-set : (next : ℕ) (row : Row) (r : Record) → follows next row r ≡ true → move_flag (status_code row.status) (status_code r.status) ≡ true
 unfolding follows
 follows-set next row r f =
-    moves-are row.status r.status ∙ and_left (may_follow_status row.status r.status) (keeps r.status next row r) f
+    moves_are row.status r.status ∙ and_left (may_follow_status row.status r.status) (keeps r.status next row r) f
 
 come-set : (t : Table) (r : Record) → may_come t r ≡ true → holds t r.name ≡ true → move_flag (held_status t r.name) (status_code r.status) ≡ true
 come-set t r m h = come-either t r m (λ _ f. follows-set t.next (row_at t (place_of t r.name)) r f) (λ n _ _. not-both n h)

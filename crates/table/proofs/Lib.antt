@@ -1,4 +1,5 @@
 -- Laws of the crate table.
+mod Names
 pub mod Laws
 mod TableSteps
 pub mod Reserve

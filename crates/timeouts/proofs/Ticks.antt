@@ -22,8 +22,8 @@ use Rattle.search.proofs.Found.{found-is}
 use Rattle.search.proofs.Find.{find-in}
 use Rattle.answers.specs.Answers.{accepted, tick_reply}
 use Rattle.answers.specs.Refusals.{first_refusal, Decision}
-use Rattle.answers.specs.declared.TickAnswer.{TickAnswer}
-use Rattle.answers.specs.declared.TickAnswer.TheVariants.{Aborted}
+use Rattle.answers.specs.TickAnswer.{TickAnswer}
+use Rattle.answers.specs.TickAnswer.{Aborted}
 use Rattle.answers.proofs.Laws.{none_is}
 use Rattle.row.specs.Limits.{epoch_last}
 use Rattle.row.specs.Row.{free, is_begin, held, record_of}

@@ -16,14 +16,15 @@ use Rattle.row.specs.Limits.{epoch_max}
 use Rattle.row.specs.Row.{is_begin, is_prepare}
 use Rattle.row.specs.Steps.{begun, widened}
 use Rattle.row.specs.declared.Row.{Row}
-use Rattle.answers.specs.Refusals.{first_refusal, or_refuse, Decision}
-use Rattle.answers.specs.declared.Answer.{Answer}
-use Rattle.answers.specs.declared.Answer.TheVariants.{Done, Refused}
+use Rattle.answers.specs.Refusals.{first_refusal, or_refuse}
+use Rattle.answers.specs.Returned.{number_of}
+use Rattle.answers.specs.declared.Refusal.{Refusal}
+use Rattle.answers.specs.Answer.{Answer}
+use Rattle.answers.specs.Answer.{Done, Refused}
 use Rattle.answers.proofs.Laws.{after_none, after_next_lem, after-all}
 use Rattle.table.specs.Table.{row_at, id_count}
 use Rattle.table.specs.declared.Held.{Held}
-use Rattle.coordinator.specs.Coordinator.{log_end, admits, clock_at, row_frame, log_full, Action, advance, append, after, log_after, Performed}
-use Rattle.coordinator.specs.Change.{unless_refused, done_unless, ActionPerformed}
+use Rattle.coordinator.specs.Coordinator.{log_end, admits, clock_at, row_frame, log_full, Action, advance, append, after, log_after, Performed, ActionPerformed}
 use Rattle.coordinator.specs.Add.{all_joined, add_row, add_row_tests, add_tests, add_action, add}
 use Rattle.coordinator.specs.declared.Coordinator.{Coordinator}
 use Rattle.coordinator.proofs.AddCases.{AddPassed, add-passed}
@@ -31,7 +32,7 @@ use Rattle.coordinator.proofs.Laws.{fits-tested}
 use Rattle.coordinator.specs.Named.{name_tests, FoundFor, not_held_at}
 use Rattle.transactions.specs.Parts.{add_full, add_at}
 use Rattle.coordinator.proofs.Named.{named-refused, named-passed, named-fits, row_is, not-held-is, tested_at}
-use Rattle.coordinator.proofs.Changes.{performed-unless}
+use Rattle.coordinator.proofs.Changes.{performed-refused, performed-accepted}
 
 -- ---- the record
 
@@ -117,6 +118,12 @@ module _ (s : Coordinator) (n : ℕ) (name : List ℕ) (pid epoch : ℤ) (set : 
   number : r ≡ first_refusal (add_tests s n name pid epoch set time)
   number = rw (to_z-of_z p, to_z-of_z q, to_z-of_z t) at refusal
 
+  -- a call that is refused leaves all as it was
+  pub add-refuses : (e : Refusal) → number_of e ≡ r → (log : List ℕ) → Performed (add s n name pid epoch set time) s log (Refused (number_of e)) s log
+  unfolding add
+  add-refuses e is log =
+      performed-refused (first_refusal (add_tests s n name pid epoch set time)) Refused (record { answer = Done; action = add_action s name set time }) s log e (is ∙ number)
+
   module _ {held : Held} (held-is : FoundFor s name held) where
     passed : r ≡ 0 → AddPassed s n name pid epoch set time
     passed z = add-passed s n name pid epoch set time (sym number ∙ z)
@@ -124,13 +131,13 @@ module _ (s : Coordinator) (n : ℕ) (name : List ℕ) (pid epoch : ℤ) (set : 
     pub add-admitted : r ≡ 0 → (admits s n ≡ true) × (held.row ≡ row_at s.table held.place) × (add_full s held.row set (to_z w64 (of_z w64 time)) ≡ false)
     add-admitted z = ((passed z).admitted, held-is.1, rw (to_z-of_z t, row_is s name (held-is.0 (passed z).named) held-is.1) (passed z).room)
 
-    decided : r ≡ 0 → ◌≡◌ {A = Decision Answer Action} (record { answer = Done; action = add_at s held.place set (to_z w64 (of_z w64 time)) }) (record { answer = Done; action = add_action s name set time })
+    decided : r ≡ 0 → add_at s held.place set (to_z w64 (of_z w64 time)) ≡ add_action s name set time
     unfolding add_at add_action
     decided z = rw (to_z-of_z t, held-is.0 (passed z).named)
 
-    pub add-performs : (log : List ℕ) {answer : Answer} {made state : Coordinator} {out : List ℕ} → ActionPerformed (unless_refused r (add_at s held.place set (to_z w64 (of_z w64 time)))) s log made out
-        → (answer ≡ done_unless r) × (state ≡ made) → Performed (add s n name pid epoch set time) s log answer state out
+    -- one that is not refused does what it does
+    pub add-performs : r ≡ 0 → (log : List ℕ) {state : Coordinator} {out : List ℕ} → ActionPerformed (add_at s held.place set (to_z w64 (of_z w64 time))) s log state out
+        → Performed (add s n name pid epoch set time) s log Done state out
     unfolding add
-    add-performs log h a =
-        performed-unless (first_refusal (add_tests s n name pid epoch set time)) Refused (record { answer = Done; action = add_action s name set time }) s log number
-        (record { answer = Done; action = add_at s held.place set (to_z w64 (of_z w64 time)) }) decided a.0 h a.1
+    add-performs z log h =
+        performed-accepted (first_refusal (add_tests s n name pid epoch set time)) Refused (record { answer = Done; action = add_action s name set time }) s log (sym z ∙ number) (rw (decided z) at h)

@@ -13,21 +13,22 @@ use Rattle.record.specs.declared.Status.{Status}
 use Rattle.row.specs.Row.{is_begin, is_prepare}
 use Rattle.row.specs.Steps.{prepared, prepare_of}
 use Rattle.row.specs.declared.Row.{Row}
-use Rattle.answers.specs.Refusals.{first_refusal, or_refuse, Decision}
-use Rattle.answers.specs.declared.Answer.{Answer}
-use Rattle.answers.specs.declared.Answer.TheVariants.{Done, Refused}
+use Rattle.answers.specs.Refusals.{first_refusal, or_refuse}
+use Rattle.answers.specs.Returned.{number_of}
+use Rattle.answers.specs.declared.Refusal.{Refusal}
+use Rattle.answers.specs.Answer.{Answer}
+use Rattle.answers.specs.Answer.{Done, Refused}
 use Rattle.answers.proofs.Laws.{after_none, after_next_lem, after-all}
 use Rattle.table.specs.Table.{row_at}
 use Rattle.table.specs.declared.Held.{Held}
-use Rattle.coordinator.specs.Coordinator.{admits, clock_at, Action, advance, append, after, log_after, Performed}
-use Rattle.coordinator.specs.Change.{unless_refused, done_unless, ActionPerformed}
+use Rattle.coordinator.specs.Coordinator.{admits, clock_at, Action, advance, append, after, log_after, Performed, ActionPerformed}
 use Rattle.coordinator.specs.End.{end_fits, end_row_tests, end_tests, end_action, end}
 use Rattle.coordinator.specs.declared.Coordinator.{Coordinator}
 use Rattle.coordinator.proofs.EndCases.{EndPassed, end-passed}
 use Rattle.coordinator.specs.Named.{name_tests, FoundFor, not_held_at}
 use Rattle.transactions.specs.Parts.{end_at}
 use Rattle.coordinator.proofs.Named.{named-refused, named-passed, named-fits, row_is, not-held-is, tested_at}
-use Rattle.coordinator.proofs.Changes.{performed-unless}
+use Rattle.coordinator.proofs.Changes.{performed-refused, performed-accepted}
 
 -- ---- the tests
 
@@ -85,6 +86,12 @@ module _ (s : Coordinator) (n : ℕ) (name : List ℕ) (pid epoch : ℤ) (verdic
   number : r ≡ first_refusal (end_tests s n name pid epoch verdict)
   number = rw (to_z-of_z p, to_z-of_z q) at refusal
 
+  -- a call that is refused leaves all as it was
+  pub end-refuses : (e : Refusal) → number_of e ≡ r → (log : List ℕ) → Performed (end s n name pid epoch verdict time) s log (Refused (number_of e)) s log
+  unfolding end
+  end-refuses e is log =
+      performed-refused (first_refusal (end_tests s n name pid epoch verdict)) Refused (record { answer = Done; action = end_action s name verdict time }) s log e (is ∙ number)
+
   passed : r ≡ 0 → EndPassed s n name pid epoch verdict time
   passed z = end-passed s n name pid epoch verdict time (sym number ∙ z)
 
@@ -92,13 +99,13 @@ module _ (s : Coordinator) (n : ℕ) (name : List ℕ) (pid epoch : ℤ) (verdic
   end-admitted z = (passed z).admitted
 
   module _ {held : Held} (held-is : FoundFor s name held) (f : SFits w64 time) where
-    decided : r ≡ 0 → ◌≡◌ {A = Decision Answer Action} (record { answer = Done; action = end_at s held.place verdict (to_z w64 (of_z w64 time)) }) (record { answer = Done; action = end_action s name verdict time })
+    decided : r ≡ 0 → end_at s held.place verdict (to_z w64 (of_z w64 time)) ≡ end_action s name verdict time
     unfolding end_at end_action
     decided z = rw (to_z-of_z f, held-is.0 (passed z).named)
 
-    pub end-performs : (log : List ℕ) {answer : Answer} {made state : Coordinator} {out : List ℕ} → ActionPerformed (unless_refused r (end_at s held.place verdict (to_z w64 (of_z w64 time)))) s log made out
-        → (answer ≡ done_unless r) × (state ≡ made) → Performed (end s n name pid epoch verdict time) s log answer state out
+    -- one that is not refused does what it does
+    pub end-performs : r ≡ 0 → (log : List ℕ) {state : Coordinator} {out : List ℕ} → ActionPerformed (end_at s held.place verdict (to_z w64 (of_z w64 time))) s log state out
+        → Performed (end s n name pid epoch verdict time) s log Done state out
     unfolding end
-    end-performs log h a =
-        performed-unless (first_refusal (end_tests s n name pid epoch verdict)) Refused (record { answer = Done; action = end_action s name verdict time }) s log number
-        (record { answer = Done; action = end_at s held.place verdict (to_z w64 (of_z w64 time)) }) decided a.0 h a.1
+    end-performs z log h =
+        performed-accepted (first_refusal (end_tests s n name pid epoch verdict)) Refused (record { answer = Done; action = end_action s name verdict time }) s log (sym z ∙ number) (rw (decided z) at h)

@@ -17,7 +17,7 @@ use Rattle.row.specs.Row.{free, is_prepare, outstanding, record_of}
 use Rattle.row.specs.Steps.{completed}
 use Rattle.row.specs.declared.Row.{Row}
 use Rattle.answers.specs.Refusals.{first_refusal, Decision}
-use Rattle.answers.specs.declared.Answer.{Answer}
+use Rattle.answers.specs.Answer.{Answer}
 use Rattle.answers.proofs.Laws.{none_is}
 use Rattle.table.specs.Table.{row_at}
 use Rattle.table.proofs.Reserve.{needs-prepare, needs-place}

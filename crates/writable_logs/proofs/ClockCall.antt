@@ -25,8 +25,8 @@ use Rattle.row.specs.declared.Row.{Row}
 use Rattle.row.proofs.Laws.{is-begin, begin-busy}
 use Rattle.answers.specs.Limits.{places}
 use Rattle.answers.specs.Refusals.{first_refusal, Decision}
-use Rattle.answers.specs.declared.Answer.{Answer}
-use Rattle.answers.specs.declared.TickAnswer.{TickAnswer}
+use Rattle.answers.specs.Answer.{Answer}
+use Rattle.answers.specs.TickAnswer.{TickAnswer}
 use Rattle.answers.proofs.Laws.{none_is}
 use Rattle.table.specs.Table.{row_at, place_of}
 use Rattle.table.specs.declared.Table.{Table}

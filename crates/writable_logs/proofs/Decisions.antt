@@ -6,9 +6,9 @@ use mathlib.Core.List.{List}
 use lib.ListN.{length}
 use borrow.Author.Tests.{eqb-true}
 use Rattle.answers.specs.Refusals.{first_refusal}
-use Rattle.answers.specs.declared.Answer.TheVariants.{Refused}
-use Rattle.answers.specs.declared.InitAnswer.TheVariants.{Refused as InitRefused}
-use Rattle.answers.specs.declared.TickAnswer.TheVariants.{Refused as TickRefused}
+use Rattle.answers.specs.Answer.{Refused}
+use Rattle.answers.specs.InitAnswer.{Refused as InitRefused}
+use Rattle.answers.specs.TickAnswer.{Refused as TickRefused}
 use Rattle.answers.proofs.Laws.{unless-does}
 use Rattle.table.specs.Table.{row_at}
 use Rattle.coordinator.specs.Coordinator.{admits, Action, keep, advance, append, acknowledge, flush_to, appended, after, log_after}

@@ -29,11 +29,11 @@ use Rattle.succession.specs.Succession.{follows}
 use Rattle.succession.proofs.Steps.{MayFollow, MayStart, begun-follows, widened-follows, committed-follows, aborted-follows, completed-follows, raised-follows, renewed-follows, follows-plain, initialized-starts}
 use Rattle.answers.specs.Limits.{places}
 use Rattle.answers.specs.Refusals.{first_refusal, Decision}
-use Rattle.answers.specs.declared.Answer.TheVariants.{Refused}
-use Rattle.answers.specs.declared.InitAnswer.{InitAnswer}
-use Rattle.answers.specs.declared.InitAnswer.TheVariants.{Refused as InitRefused}
-use Rattle.answers.specs.declared.TickAnswer.{TickAnswer}
-use Rattle.answers.specs.declared.TickAnswer.TheVariants.{Refused as TickRefused}
+use Rattle.answers.specs.Answer.{Refused}
+use Rattle.answers.specs.InitAnswer.{InitAnswer}
+use Rattle.answers.specs.InitAnswer.{Refused as InitRefused}
+use Rattle.answers.specs.TickAnswer.{TickAnswer}
+use Rattle.answers.specs.TickAnswer.{Refused as TickRefused}
 use Rattle.answers.proofs.Laws.{unless-does}
 use Rattle.table.specs.Next.{in_time, may_come}
 use Rattle.table.specs.Table.{row_at, place_of, lowest_free, place_for}

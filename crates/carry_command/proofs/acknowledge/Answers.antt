@@ -3,7 +3,7 @@ use mathlib.Core.Path.{ap, ◌∙◌}
 use mathlib.Core.List.{[], ◌∷◌}
 use lib.IntN.{pos}
 use Rattle.answers.specs.Answers.{Reply, reply}
-use Rattle.answers.specs.declared.Answer.{Answer}
+use Rattle.answers.specs.Answer.{Answer}
 use Rattle.coordinator.specs.Ack.{ack as ack_decision}
 use mir.Facts.{to_z-of_z}
 use lib.ListN.{length}

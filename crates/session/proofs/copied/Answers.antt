@@ -1,7 +1,7 @@
 -- `session::copied` meets its contract.
 use mathlib.Core.Path.{sym, ap, ◌∙◌}
 use Rattle.answers.specs.Answers.{Reply, read_reply}
-use Rattle.answers.specs.declared.ReadAnswer.{ReadAnswer}
+use Rattle.answers.specs.ReadAnswer.{ReadAnswer}
 use Rattle.session.specs.Commands.{payloads_of}
 use mathlib.Core.List.{List}
 use Prim.Native.Nat.{ℕ}

@@ -8,7 +8,7 @@ use Rattle.transactions.proofs.add_full.Goals as goal
 pub returns-then-all_joined : goal.returns-then-all_joined
 returns-then-all_joined c =
     let a = c.args in
-    add-full-not a.s a.row a.set a.time (sym c.all_joined.ensures ∙ c.if-all_joined.true)
+    add-full-not a.s.now a.row a.set a.time (sym c.all_joined.ensures ∙ c.if-all_joined.true)
 
 pub log_full-requires : goal.log_full-requires
 log_full-requires c = omega arith
@@ -16,4 +16,4 @@ log_full-requires c = omega arith
 pub returns : goal.returns
 returns c =
     let a = c.args in
-    add-full-is a.s a.row a.set a.time (sym c.all_joined.ensures ∙ c.if-all_joined.false) (clock-is a.s c.ranges.time c.later-clock.ensures) c.add_row.ensures c.requires.0 c.log_full.ensures
+    add-full-is a.s.now a.row a.set a.time (sym c.all_joined.ensures ∙ c.if-all_joined.false) (clock-is a.s.now c.ranges.time c.later-clock.ensures) c.add_row.ensures c.id_count.ensures.0 c.log_full.ensures
