@@ -46,7 +46,7 @@ pub fn parsed(rt: &impl Print, text: &[u8]) -> io::Result<()> {
             number(rt, c.all)?;
         }
         None => {
-            number(rt, u64::from(answers::INVALID_CATALOGUE))?;
+            number(rt, u64::from(u8::from(answers::Refusal::InvalidCatalogue)))?;
             number(rt, 0)?;
         }
     }
