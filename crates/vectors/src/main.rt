@@ -12,19 +12,10 @@ fn catalogue_of(text: &[u8]) -> Catalogue {
     catalogue::parse(text).unwrap_or(catalogue::blank())
 }
 
-// A name padded with zeros; one that is too long is left out.
-fn padded(name: &[u8]) -> [u8; record::NAME_MAX] {
-    let mut all = [0u8; record::NAME_MAX];
-    if name.len() <= record::NAME_MAX {
-        numbers::copy(&mut all, 0, name);
-    }
-    all
-}
-
 // A record of a rig in a transaction with this set.
 fn begun(name: &[u8], joined: u64) -> Record {
     Record {
-        name: padded(name),
+        name: record::padded_name(name),
         pid: 1000,
         epoch: 0,
         timeout: 60000,
@@ -39,7 +30,7 @@ fn begun(name: &[u8], joined: u64) -> Record {
 fn extreme(name: &[u8], status: Status, joined: u64, least: bool) -> Record {
     if least {
         return Record {
-            name: padded(name),
+            name: record::padded_name(name),
             pid: 0,
             epoch: -32768,
             timeout: 1,
@@ -50,7 +41,7 @@ fn extreme(name: &[u8], status: Status, joined: u64, least: bool) -> Record {
         };
     }
     Record {
-        name: padded(name),
+        name: record::padded_name(name),
         pid: 9223372036854775807,
         epoch: 32767,
         timeout: 900000,
@@ -64,7 +55,7 @@ fn extreme(name: &[u8], status: Status, joined: u64, least: bool) -> Record {
 // A record of a rig with no transaction.
 fn empty(name: &[u8]) -> Record {
     Record {
-        name: padded(name),
+        name: record::padded_name(name),
         pid: 1000,
         epoch: 0,
         timeout: 60000,

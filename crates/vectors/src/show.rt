@@ -46,7 +46,7 @@ pub fn parsed(rt: &impl Print, text: &[u8]) -> io::Result<()> {
             number(rt, c.all)?;
         }
         None => {
-            number(rt, u64::from(answers::INVALID_CATALOGUE))?;
+            number(rt, u64::from(u8::from(answers::Refusal::InvalidCatalogue)))?;
             number(rt, 0)?;
         }
     }
@@ -60,8 +60,7 @@ fn fields(rt: &impl Print, r: Record) -> io::Result<()> {
     signed(rt, r.pid)?;
     signed(rt, i64::from(r.epoch))?;
     signed(rt, i64::from(r.timeout))?;
-    let status = r.status;
-    signed(rt, i64::from(record::status_code(status)))?;
+    signed(rt, i64::from(i8::from(r.status)))?;
     number(rt, r.joined)?;
     signed(rt, r.updated)?;
     signed(rt, r.start)
