@@ -44,7 +44,7 @@ fn write_answer(answer: Result<bool, InvalidBoard>, out: &mut [u8], at: usize) -
     match answer {
         Ok(true) => text::write_bytes(out, at, b"\t0\t1"),
         Ok(false) => text::write_bytes(out, at, b"\t0\t0"),
-        Err(refusal) => text::field_decimal(out, at, u64::from(u8::from(refusal))),
+        Err(refusal) => text::write_field(out, at, u64::from(u8::from(refusal))),
     }
 }
 
