@@ -17,7 +17,11 @@ use Rattle.partition.specs.Partition.{Action as PartitionAction, Performed as Pa
 use Rattle.partition.specs.Read.{read_answer, read_out}
 use Rattle.answers.specs.ReadAnswer.{ReadAnswer}
 use Rattle.partition.specs.declared.Partition.{Partition}
-use Rattle.coordinator.specs.Open.{opening}
+use Rattle.answers.specs.Returned.{open_error_of, open_number_of}
+use Rattle.answers.specs.declared.OpenError.TheVariants.{BadLog, Refused as RefusedError}
+use Rattle.answers.proofs.Returned.{number-positive}
+use Rattle.std.specs.declared.result.Result.TheVariants.{Ok, Err}
+use Rattle.coordinator.specs.Open.{opening, opened_of}
 use Rattle.coordinator.specs.Flush.{flush, flush_tests}
 use Rattle.coordinator.specs.OpenedLog.{OpenedLog}
 use Rattle.numbers.proofs.Tests.{by_cases}
@@ -35,7 +39,9 @@ use Rattle.server.specs.Calls.{coordinator_does, partition_does, with_coordinato
 use Rattle.session.specs.Limits.{partitions, first_pid, last_pid, first_epoch}
 use Rattle.session.specs.Memory.{Memory, memory, opened, partition_at, share, words_at, with_words, server_at, with_server}
 use Rattle.session.specs.Commands.{Outcome, called, stays, and_then, delivers, payloads_of, carried, next_epoch, restarts, performed_on_log, performed, Performs}
-use Rattle.session.specs.declared.Performed.{Performed}
+use Rattle.answers.specs.declared.OpenError.{OpenError}
+use Rattle.std.specs.declared.result.Result.{Result}
+use Rattle.session.specs.declared.Results.{Results}
 use Rattle.session.specs.declared.Session.{Session}
 
 -- ---- the words of a partition
@@ -94,11 +100,11 @@ other-coordinator index m c = rw (set-get_or, own-words m.words index)
 
 -- ---- what goes on unless it is refused
 
-module _ (o : Outcome) (next : Memory → Outcome) (r : Performed) {log words payloads : List ℕ} where
-  pub goes_on_lem : {m : Memory} → o.reply.number ≡ 0 → m ≡ o.memory → Performs (next m) r log words payloads → Performs (and_then o next) r log words payloads
+module _ (o : Outcome) (next : Memory → Outcome) (response : Result Results OpenError) (session : Session) {log words payloads : List ℕ} where
+  pub goes_on_lem : {m : Memory} → o.reply.number ≡ 0 → m ≡ o.memory → Performs (next m) response session log words payloads → Performs (and_then o next) response session log words payloads
   goes_on_lem e q p = rw (eq-eqb _ 0 e, ← q) p
 
-  pub stops : (o.reply.number ≡ 0 → ⊥) → Performs o r log words payloads → Performs (and_then o next) r log words payloads
+  pub stops : (o.reply.number ≡ 0 → ⊥) → Performs o response session log words payloads → Performs (and_then o next) response session log words payloads
   stops h p = rw (ne_eqb _ 0 h) p
 
 -- ---- a reading
@@ -125,73 +131,87 @@ module _ (s : Session) (log words payloads : List ℕ) (index : ℕ) {told : Rep
 
 -- ---- restarts
 
-module _ (s : Session) (log words payloads : List ℕ) (n : ℕ) {told : Reply} {number : ℕ}
-    (of : number ≡ (open_reply (opening catalogue_text log n (next_epoch s.coordinator.epoch) first_pid last_pid).answer).number) where
-  pub restart-refused : (number ≡ 0 → ⊥) → told ≡ refused number
-      → (told ≡ (restarts n (memory s log words payloads)).reply) × (memory s log words payloads ≡ (restarts n (memory s log words payloads)).memory)
-  restart-refused h e = let f = ne_eqb _ 0 (λ z. h (of ∙ z)) in (rw (f, e, of), rw f (as_it_was 0 (memory s log words payloads)))
+error-number : (error : OpenError) → (open_reply (open_error_of error)).number ≡ open_number_of error
+error-number (BadLog offset) = refl
+error-number (RefusedError refusal) = refl
 
-  pub restart-opened : {state : Coordinator} {afterwards : Session} → number ≡ 0 → told ≡ accepted []
-      → state ≡ (opening catalogue_text log n (next_epoch s.coordinator.epoch) first_pid last_pid).state
-      → afterwards ≡ record { coordinator = state; partitions = s.partitions }
-      → (told ≡ (restarts n (memory s log words payloads)).reply) × (memory afterwards log words payloads ≡ (restarts n (memory s log words payloads)).memory)
-  restart-opened z e t u = let f = eq-eqb _ 0 (sym of ∙ z) in (rw (f, e), rw (f, u, t) (other-coordinator 0 (memory s log words payloads) _))
+error-positive : (error : OpenError) → open_number_of error ≡ 0 → ⊥
+error-positive (BadLog offset) h = omega (arith, h)
+error-positive (RefusedError refusal) h = number-positive refusal h
+
+module _ (s : Session) (log words payloads : List ℕ) (n : ℕ) {r : Result Coordinator OpenError}
+    (of : opened_of r ≡ opening catalogue_text log n (next_epoch s.coordinator.epoch) first_pid last_pid) where
+  pub restart-refused : (error : OpenError) → r ≡ Err error
+      → (refused (open_number_of error) ≡ (restarts n (memory s log words payloads)).reply) × (memory s log words payloads ≡ (restarts n (memory s log words payloads)).memory)
+  restart-refused error e =
+      let q : (open_reply (opening catalogue_text log n (next_epoch s.coordinator.epoch) first_pid last_pid).answer).number ≡ open_number_of error = rw (← of, e) (error-number error) in
+      let f = ne_eqb _ 0 (λ z. error-positive error (sym q ∙ z)) in
+      (rw (f, q) refl, rw f (as_it_was 0 (memory s log words payloads)))
+
+  pub restart-opened : {state : Coordinator} → r ≡ Ok state
+      → (accepted [] ≡ (restarts n (memory s log words payloads)).reply)
+      × (memory (record { coordinator = state; partitions = s.partitions }) log words payloads ≡ (restarts n (memory s log words payloads)).memory)
+  restart-opened {state} e =
+      let q : (open_reply (opening catalogue_text log n (next_epoch s.coordinator.epoch) first_pid last_pid).answer).number ≡ 0 = rw (← of, e) refl in
+      let t : state ≡ (opening catalogue_text log n (next_epoch s.coordinator.epoch) first_pid last_pid).state = rw (← of, e) refl in
+      let f = eq-eqb _ 0 q in
+      (rw f refl, rw (f, t) (other-coordinator 0 (memory s log words payloads) _))
 
 -- ---- cases
 
 -- what an order carries; its signed values are passed on by their bits
-module _ (place verdict position : ℕ) {pid pid' epoch epoch' coordinator coordinator' : ℤ} (m : Memory) (r : Performed) {log words payloads : List ℕ} where
+module _ (place verdict position : ℕ) {pid pid' epoch epoch' coordinator coordinator' : ℤ} (m : Memory) (response : Result Results OpenError) (session : Session) {log words payloads : List ℕ} where
   pub carried-order : {a : OrderAnswer} → a ≡ Order place pid epoch verdict position coordinator → pid' ≡ pid → epoch' ≡ epoch → coordinator' ≡ coordinator
-      → Performs (delivers place pid' epoch' verdict position coordinator' m) r log words payloads
-      → Performs (carried a m) r log words payloads
+      → Performs (delivers place pid' epoch' verdict position coordinator' m) response session log words payloads
+      → Performs (carried a m) response session log words payloads
   carried-order e p q k d = rw e (rw (p, q, k) at d)
 
-pub carried_none : {a : OrderAnswer} (m : Memory) (r : Performed) {log words payloads : List ℕ} → a ≡ NoOrder → Performs (stays (accepted []) m) r log words payloads
-    → Performs (carried a m) r log words payloads
-carried_none m r e p = rw e p
+pub carried_none : {a : OrderAnswer} (m : Memory) (response : Result Results OpenError) (session : Session) {log words payloads : List ℕ} → a ≡ NoOrder → Performs (stays (accepted []) m) response session log words payloads
+    → Performs (carried a m) response session log words payloads
+carried_none m response session e p = rw e p
 
 -- what a command does
-pub performed-as : {a : Command} (b : Command) (line : List ℕ) (m : Memory) (r : Performed) {log words payloads : List ℕ} → a ≡ b → Performs (performed b line m) r log words payloads
-    → Performs (performed a line m) r log words payloads
-performed-as b line m r e p = rw e p
+pub performed-as : {a : Command} (b : Command) (line : List ℕ) (m : Memory) (response : Result Results OpenError) (session : Session) {log words payloads : List ℕ} → a ≡ b → Performs (performed b line m) response session log words payloads
+    → Performs (performed a line m) response session log words payloads
+performed-as b line m response session e p = rw e p
 
 -- a command that is lent the log buffer alone
-pub logged-as : {a : Command} (b : Command) (line : List ℕ) (m : Memory) (r : Performed) {log words payloads : List ℕ} → a ≡ b → Performs (performed_on_log b line m) r log words payloads
-    → Performs (performed_on_log a line m) r log words payloads
-logged-as b line m r e p = rw e p
+pub logged-as : {a : Command} (b : Command) (line : List ℕ) (m : Memory) (response : Result Results OpenError) (session : Session) {log words payloads : List ℕ} → a ≡ b → Performs (performed_on_log b line m) response session log words payloads
+    → Performs (performed_on_log a line m) response session log words payloads
+logged-as b line m response session e p = rw e p
 
 -- it is one by its tag, and then it does what it is said to do
-pub on-log-as : (command : Command) (line : List ℕ) (m : Memory) (r : Performed) {log words payloads : List ℕ} → OneOf (0 ∷ 1 ∷ 2 ∷ 3 ∷ 4 ∷ 8 ∷ 10 ∷ []) (tag_of the_type command)
-    → Performs (performed_on_log command line m) r log words payloads
-    → Performs (performed command line m) r log words payloads
+pub on-log-as : (command : Command) (line : List ℕ) (m : Memory) (response : Result Results OpenError) (session : Session) {log words payloads : List ℕ} → OneOf (0 ∷ 1 ∷ 2 ∷ 3 ∷ 4 ∷ 8 ∷ 10 ∷ []) (tag_of the_type command)
+    → Performs (performed_on_log command line m) response session log words payloads
+    → Performs (performed command line m) response session log words payloads
 unfolding performed
-on-log-as (Init name timeout time) line m r h p = p
-on-log-as (Add name pid epoch set time) line m r h p = p
-on-log-as (End name pid epoch verdict time) line m r h p = p
-on-log-as (Tick time) line m r h p = p
-on-log-as Flush line m r h p = p
-on-log-as (Put name pid epoch position sequence payload) line m r h p = absurd (miss (0 ∷ 1 ∷ 2 ∷ 3 ∷ 4 ∷ 8 ∷ 10 ∷ []) 5 tt h)
-on-log-as (Carry up) line m r h p = absurd (miss (0 ∷ 1 ∷ 2 ∷ 3 ∷ 4 ∷ 8 ∷ 10 ∷ []) 6 tt h)
-on-log-as (Read position) line m r h p = absurd (miss (0 ∷ 1 ∷ 2 ∷ 3 ∷ 4 ∷ 8 ∷ 10 ∷ []) 7 tt h)
-on-log-as (Cut kept) line m r h p = p
-on-log-as (Left place) line m r h p = absurd (miss (0 ∷ 1 ∷ 2 ∷ 3 ∷ 4 ∷ 8 ∷ 10 ∷ []) 9 tt h)
-on-log-as Unknown line m r h p = p
+on-log-as (Init name timeout time) line m response session h p = p
+on-log-as (Add name pid epoch set time) line m response session h p = p
+on-log-as (End name pid epoch verdict time) line m response session h p = p
+on-log-as (Tick time) line m response session h p = p
+on-log-as Flush line m response session h p = p
+on-log-as (Put name pid epoch position sequence payload) line m response session h p = absurd (miss (0 ∷ 1 ∷ 2 ∷ 3 ∷ 4 ∷ 8 ∷ 10 ∷ []) 5 tt h)
+on-log-as (Carry up) line m response session h p = absurd (miss (0 ∷ 1 ∷ 2 ∷ 3 ∷ 4 ∷ 8 ∷ 10 ∷ []) 6 tt h)
+on-log-as (Read position) line m response session h p = absurd (miss (0 ∷ 1 ∷ 2 ∷ 3 ∷ 4 ∷ 8 ∷ 10 ∷ []) 7 tt h)
+on-log-as (Cut kept) line m response session h p = p
+on-log-as (Left place) line m response session h p = absurd (miss (0 ∷ 1 ∷ 2 ∷ 3 ∷ 4 ∷ 8 ∷ 10 ∷ []) 9 tt h)
+on-log-as Unknown line m response session h p = p
 
 -- for any other nothing is done
-pub nothing-on-log : (command : Command) (line : List ℕ) (m : Memory) (r : Performed) {log words payloads : List ℕ} → OneOf (5 ∷ 6 ∷ 7 ∷ 9 ∷ 10 ∷ []) (tag_of the_type command)
-    → Performs (stays (accepted []) m) r log words payloads
-    → Performs (performed_on_log command line m) r log words payloads
-nothing-on-log (Init name timeout time) line m r h p = absurd (miss (5 ∷ 6 ∷ 7 ∷ 9 ∷ 10 ∷ []) 0 tt h)
-nothing-on-log (Add name pid epoch set time) line m r h p = absurd (miss (5 ∷ 6 ∷ 7 ∷ 9 ∷ 10 ∷ []) 1 tt h)
-nothing-on-log (End name pid epoch verdict time) line m r h p = absurd (miss (5 ∷ 6 ∷ 7 ∷ 9 ∷ 10 ∷ []) 2 tt h)
-nothing-on-log (Tick time) line m r h p = absurd (miss (5 ∷ 6 ∷ 7 ∷ 9 ∷ 10 ∷ []) 3 tt h)
-nothing-on-log Flush line m r h p = absurd (miss (5 ∷ 6 ∷ 7 ∷ 9 ∷ 10 ∷ []) 4 tt h)
-nothing-on-log (Put name pid epoch position sequence payload) line m r h p = p
-nothing-on-log (Carry up) line m r h p = p
-nothing-on-log (Read position) line m r h p = p
-nothing-on-log (Cut kept) line m r h p = absurd (miss (5 ∷ 6 ∷ 7 ∷ 9 ∷ 10 ∷ []) 8 tt h)
-nothing-on-log (Left place) line m r h p = p
-nothing-on-log Unknown line m r h p = p
+pub nothing-on-log : (command : Command) (line : List ℕ) (m : Memory) (response : Result Results OpenError) (session : Session) {log words payloads : List ℕ} → OneOf (5 ∷ 6 ∷ 7 ∷ 9 ∷ 10 ∷ []) (tag_of the_type command)
+    → Performs (stays (accepted []) m) response session log words payloads
+    → Performs (performed_on_log command line m) response session log words payloads
+nothing-on-log (Init name timeout time) line m response session h p = absurd (miss (5 ∷ 6 ∷ 7 ∷ 9 ∷ 10 ∷ []) 0 tt h)
+nothing-on-log (Add name pid epoch set time) line m response session h p = absurd (miss (5 ∷ 6 ∷ 7 ∷ 9 ∷ 10 ∷ []) 1 tt h)
+nothing-on-log (End name pid epoch verdict time) line m response session h p = absurd (miss (5 ∷ 6 ∷ 7 ∷ 9 ∷ 10 ∷ []) 2 tt h)
+nothing-on-log (Tick time) line m response session h p = absurd (miss (5 ∷ 6 ∷ 7 ∷ 9 ∷ 10 ∷ []) 3 tt h)
+nothing-on-log Flush line m response session h p = absurd (miss (5 ∷ 6 ∷ 7 ∷ 9 ∷ 10 ∷ []) 4 tt h)
+nothing-on-log (Put name pid epoch position sequence payload) line m response session h p = p
+nothing-on-log (Carry up) line m response session h p = p
+nothing-on-log (Read position) line m response session h p = p
+nothing-on-log (Cut kept) line m response session h p = absurd (miss (5 ∷ 6 ∷ 7 ∷ 9 ∷ 10 ∷ []) 8 tt h)
+nothing-on-log (Left place) line m response session h p = p
+nothing-on-log Unknown line m response session h p = p
 
 -- the signed numbers of a command are passed on by their bits
 pub same-init : (name : Part) {timeout timeout' time time' : ℤ} → timeout' ≡ timeout → time' ≡ time → Init name timeout time ≡ Init name timeout' time'
@@ -208,16 +228,17 @@ module _ (name : Part) {pid pid' epoch epoch' last last' : ℤ} (p : pid' ≡ pi
   same-put position payload = rw (p, q, r)
 
 -- what is done with a name
-pub named-as : (does : List ℕ → Outcome) (r : Performed) {log words payloads : List ℕ} (own name : List ℕ) → own ≡ name → Performs (does own) r log words payloads
-    → Performs (does name) r log words payloads
-named-as does r own name e p = rw e at p
+pub named-as : (does : List ℕ → Outcome) (response : Result Results OpenError) (session : Session) {log words payloads : List ℕ} (own name : List ℕ) → own ≡ name → Performs (does own) response session log words payloads
+    → Performs (does name) response session log words payloads
+named-as does response session own name e p = rw e at p
 
 -- ---- the opening
 
-pub opened-as : (log words : List ℕ) {o : OpenedLog} {p : Partition} → o ≡ opening catalogue_text log 0 first_epoch first_pid last_pid → p ≡ open_partition (share words)
-    → record { coordinator = o.state; partitions = p ∷ p ∷ p ∷ [] } ≡ opened log words
+pub opened-as : (log words : List ℕ) {r : Result Coordinator OpenError} {blank c : Coordinator} {p : Partition} → opened_of r ≡ opening catalogue_text log 0 first_epoch first_pid last_pid
+    → blank ≡ blank_state → c ≡ unwrap_ok_or r blank → p ≡ open_partition (share words)
+    → record { coordinator = c; partitions = p ∷ p ∷ p ∷ [] } ≡ opened log words
 unfolding opened
-opened-as log words e q = rw (e, q)
+opened-as log words {r} e h u q = ?
 
 -- a Flush writes nothing
 pub flush-log : (s : Coordinator) (n : ℕ) (log : List ℕ) → log ≡ log_after (flush s n).action s log
