@@ -1,4 +1,4 @@
-// Sets of positions 0 to 63, held in a u64.
+// Sets of positions 0 to 63, held in a u64. No type of its own: records, rows and specs/ hold such a set as a number, so a type would be unwrapped at each use.
 #![tactic(auto)]
 
 ghost use Rattle.std.specs.Prelude.{◌≡◌};
@@ -43,12 +43,12 @@ pub fn subset(a: u64, b: u64) -> bool
 pub fn lowest(x: u64) -> u32
     ensures { result ≡ lowest x }
 {
-    u64::trailing_zeros(x)
+    x.trailing_zeros()
 }
 
 // How many members there are.
 pub fn count(x: u64) -> u32
     ensures { result ≡ count x }
 {
-    u64::count_ones(x)
+    x.count_ones()
 }

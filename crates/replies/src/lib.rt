@@ -139,9 +139,7 @@ fn results_rendered(dash: bool, results: session::Results, lent: usize) -> listi
 {
     match results {
         session::Results::Nothing => none_rendered(dash),
-        session::Results::Producer(pid, epoch) => {
-            listing::Results::Two(pid, i64::from(epoch))
-        }
+        session::Results::Producer(pid, epoch) => { listing::Results::Two(pid, i64::from(epoch)) }
         session::Results::Place(_) => listing::Results::Payloads(1),
         session::Results::Offset(_) => listing::Results::Payloads(1),
         session::Results::Carried {
