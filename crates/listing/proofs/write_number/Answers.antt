@@ -5,11 +5,12 @@ use Rattle.listing.proofs.Writing.{decimal-short}
 use Rattle.listing.proofs.write_number.Goals as goal
 
 pub field_decimal-requires : goal.field_decimal-requires
-field_decimal-requires c = omega (arith, decimal-short c.in-Answered.number (search rules), c.requires)
+field_decimal-requires c = rw c.from.ensures (omega (arith, decimal-short c.in-Answered.number (search rules), c.requires))
 
 pub returns-in-Unknown : goal.returns-in-Unknown
 returns-in-Unknown c = (rw c.in-Unknown.is c.field_bytes.ensures, omega (arith, c.field_bytes.ensures.0))
 
 pub returns-in-Answered : goal.returns-in-Answered
 returns-in-Answered c =
-    (rw c.in-Answered.is c.field_decimal.ensures, omega (arith, decimal-short c.in-Answered.number (search rules), c.field_decimal.ensures.0))
+    let e = rw c.from.ensures at c.field_decimal.ensures in
+    (rw c.in-Answered.is e, omega (arith, decimal-short c.in-Answered.number (search rules), e.0))
