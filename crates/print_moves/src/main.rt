@@ -4,27 +4,6 @@
 use record::Status;
 use std::io;
 
-// The code and the name of a status.
-fn heading(rt: &impl Print, status: Status) -> io::Result<()> {
-    match status {
-        Status::Empty => print!(rt; "            0 EMPTY"),
-        Status::Begin => print!(rt; "            1 BEGIN"),
-        Status::PrepareCommit => print!(rt; "   2 PREPARE_COMMIT"),
-        Status::PrepareAbort => print!(rt; "    3 PREPARE_ABORT"),
-        Status::CompleteCommit => print!(rt; "  4 COMPLETE_COMMIT"),
-        Status::CompleteAbort => print!(rt; "   5 COMPLETE_ABORT"),
-    }
-}
-
-// Whether the new status may follow the one held.
-fn flag(rt: &impl Print, held: Status, new: Status) -> io::Result<()> {
-    if succession::may_follow_status(held, new) {
-        print!(rt; "         may follow")
-    } else {
-        print!(rt; "                  -")
-    }
-}
-
 // The statuses in the order of their codes.
 const STATUSES: [Status; 6] = [
     Status::Empty,
@@ -35,20 +14,41 @@ const STATUSES: [Status; 6] = [
     Status::CompleteAbort,
 ];
 
+// The code and the name of a status.
+fn heading(status: Status) -> &'static str {
+    match status {
+        Status::Empty => "0 EMPTY",
+        Status::Begin => "1 BEGIN",
+        Status::PrepareCommit => "2 PREPARE_COMMIT",
+        Status::PrepareAbort => "3 PREPARE_ABORT",
+        Status::CompleteCommit => "4 COMPLETE_COMMIT",
+        Status::CompleteAbort => "5 COMPLETE_ABORT",
+    }
+}
+
+// Whether the new status may follow the one held.
+fn flag(held: Status, new: Status) -> &'static str {
+    if succession::may_follow_status(held, new) {
+        "may follow"
+    } else {
+        "-"
+    }
+}
+
 // The new statuses.
 fn headings(rt: &impl Print) -> io::Result<()> {
-    print!(rt; "                   ")?;
+    print!(rt; "{:>19}", "")?;
     for status in STATUSES {
-        heading(rt, status)?;
+        print!(rt; "{:>19}", heading(status))?;
     }
     print!(rt; "\n")
 }
 
 // The status held, and its flags.
 fn row(rt: &impl Print, held: Status) -> io::Result<()> {
-    heading(rt, held)?;
+    print!(rt; "{:>19}", heading(held))?;
     for new in STATUSES {
-        flag(rt, held, new)?;
+        print!(rt; "{:>19}", flag(held, new))?;
     }
     print!(rt; "\n")
 }
