@@ -25,36 +25,38 @@ fn flag(rt: &impl Print, held: Status, new: Status) -> io::Result<()> {
     }
 }
 
+// The statuses in the order of their codes.
+const STATUSES: [Status; 6] = [
+    Status::Empty,
+    Status::Begin,
+    Status::PrepareCommit,
+    Status::PrepareAbort,
+    Status::CompleteCommit,
+    Status::CompleteAbort,
+];
+
 // The new statuses.
 fn headings(rt: &impl Print) -> io::Result<()> {
     print!(rt; "                   ")?;
-    heading(rt, Status::Empty)?;
-    heading(rt, Status::Begin)?;
-    heading(rt, Status::PrepareCommit)?;
-    heading(rt, Status::PrepareAbort)?;
-    heading(rt, Status::CompleteCommit)?;
-    heading(rt, Status::CompleteAbort)?;
+    for status in STATUSES {
+        heading(rt, status)?;
+    }
     print!(rt; "\n")
 }
 
 // The status held, and its flags.
 fn row(rt: &impl Print, held: Status) -> io::Result<()> {
     heading(rt, held)?;
-    flag(rt, held, Status::Empty)?;
-    flag(rt, held, Status::Begin)?;
-    flag(rt, held, Status::PrepareCommit)?;
-    flag(rt, held, Status::PrepareAbort)?;
-    flag(rt, held, Status::CompleteCommit)?;
-    flag(rt, held, Status::CompleteAbort)?;
+    for new in STATUSES {
+        flag(rt, held, new)?;
+    }
     print!(rt; "\n")
 }
 
 fn main(rt: HostRuntime) -> io::Result<()> {
     headings(&rt)?;
-    row(&rt, Status::Empty)?;
-    row(&rt, Status::Begin)?;
-    row(&rt, Status::PrepareCommit)?;
-    row(&rt, Status::PrepareAbort)?;
-    row(&rt, Status::CompleteCommit)?;
-    row(&rt, Status::CompleteAbort)
+    for held in STATUSES {
+        row(&rt, held)?;
+    }
+    Ok(())
 }
