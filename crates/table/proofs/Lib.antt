@@ -1,5 +1,4 @@
 -- Laws of the crate table.
-pub mod Names
 pub mod Laws
 pub mod Reserve
 pub mod Records
