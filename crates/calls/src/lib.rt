@@ -2,18 +2,26 @@
 #![tactic(auto)]
 
 ghost use Rattle.answers.specs.Answers.{reply, open_reply, init_reply, tick_reply, order_reply, produce_reply, read_reply};
+ghost use Rattle.answers.specs.Returned.{answer_of, init_answer_of, tick_answer_of, order_answer_of, produce_answer_of, read_answer_of};
 ghost use Rattle.coordinator.specs.Calls.{init_call, add_call, end_call, tick_call, ack_call};
+ghost use Rattle.coordinator.specs.Open.{opened_of};
 ghost use Rattle.server.specs.Calls.{call, produce_call, marker_call};
 ghost use Rattle.calls.specs.Meets.{OfCoordinator, OfFlush, OfOrder, OfOpening, OfOpenWords, OfPartition, OfMarker, OfRead};
 
-use answers::{OrderAnswer, ReadAnswer};
-use coordinator::{Answered, Coordinator, Initialized, OpenedLog, Ticked};
-use partition::{Marked, Partition};
-use server::Produced;
+use answers::{Copied, Initialized, OpenError, Order, Refusal};
+use coordinator::Coordinator;
+use partition::Partition;
 
 // Opening of a log.
-pub fn opening(text: &[u8], log: &[u8], n: usize, epoch: i32, first: i64, last: i64) -> OpenedLog
-    ensures { OfOpening text.now n epoch first last log.now (open_reply result.answer) result.state }
+pub fn opening(
+    text: &[u8],
+    log: &[u8],
+    n: usize,
+    epoch: i32,
+    first: i64,
+    last: i64,
+) -> Result<Coordinator, OpenError>
+    ensures { OfOpening text.now n epoch first last log.now (open_reply (opened_of result).answer) (opened_of result).state }
 {
     opening::opening(text, log, n, epoch, first, last)
 }
@@ -26,81 +34,87 @@ pub fn open_partition(n: usize) -> Partition
 }
 
 // Init.
-pub fn init(s: Coordinator, log: &mut [u8], name: &[u8], timeout: i32, time: i64) -> Initialized
-    ensures { OfCoordinator (call (init_call name.now timeout time)) s log.old (init_reply result.answer) result.state log.new }
+pub fn init(
+    s: &mut Coordinator,
+    log: &mut [u8],
+    name: &[u8],
+    timeout: i32,
+    time: i64,
+) -> Result<Initialized, Refusal>
+    ensures { OfCoordinator (call (init_call name.now timeout time)) s.old log.old (init_reply (init_answer_of result)) s.new log.new }
 {
     producer_ids::init(s, log, name, timeout, time)
 }
 
 // Add.
 pub fn add(
-    s: Coordinator,
+    s: &mut Coordinator,
     log: &mut [u8],
     name: &[u8],
     pid: i64,
     epoch: i16,
     set: u64,
     time: i64,
-) -> Answered
-    ensures { OfCoordinator (call (add_call name.now pid epoch set time)) s log.old (reply result.answer) result.state log.new }
+) -> Result<(), Refusal>
+    ensures { OfCoordinator (call (add_call name.now pid epoch set time)) s.old log.old (reply (answer_of result)) s.new log.new }
 {
     transactions::add(s, log, name, pid, epoch, set, time)
 }
 
 // End.
 pub fn end(
-    s: Coordinator,
+    s: &mut Coordinator,
     log: &mut [u8],
     name: &[u8],
     pid: i64,
     epoch: i16,
     verdict: u64,
     time: i64,
-) -> Answered
-    ensures { OfCoordinator (call (end_call name.now pid epoch verdict time)) s log.old (reply result.answer) result.state log.new }
+) -> Result<(), Refusal>
+    ensures { OfCoordinator (call (end_call name.now pid epoch verdict time)) s.old log.old (reply (answer_of result)) s.new log.new }
 {
     transactions::end(s, log, name, pid, epoch, verdict, time)
 }
 
 // Tick.
-pub fn tick(s: Coordinator, log: &mut [u8], time: i64) -> Ticked
-    ensures { OfCoordinator (call (tick_call time)) s log.old (tick_reply result.answer) result.state log.new }
+pub fn tick(s: &mut Coordinator, log: &mut [u8], time: i64) -> Result<Option<usize>, Refusal>
+    ensures { OfCoordinator (call (tick_call time)) s.old log.old (tick_reply (tick_answer_of result)) s.new log.new }
 {
     completion::tick(s, log, time)
 }
 
 // Flush.
-pub fn flush(s: Coordinator, length: usize) -> Answered
-    ensures { OfFlush length s (reply result.answer) result.state }
+pub fn flush(s: &mut Coordinator, length: usize) -> Result<(), Refusal>
+    ensures { OfFlush length s.old (reply (answer_of result)) s.new }
 {
     completion::flush(s, length)
 }
 
 // Order.
-pub fn order(s: Coordinator, up: u64) -> OrderAnswer
-    ensures { OfOrder up s (order_reply result) }
+pub fn order(s: &Coordinator, up: u64) -> Option<Order>
+    ensures { OfOrder up s.now (order_reply (order_answer_of result)) }
 {
     completion::order(s, up)
 }
 
 // Ack.
 pub fn ack(
-    s: Coordinator,
+    s: &mut Coordinator,
     log: &mut [u8],
     place: usize,
     pid: i64,
     epoch: i16,
     position: usize,
-) -> Answered
-    ensures { OfCoordinator (call (ack_call place pid epoch position)) s log.old (reply result.answer) result.state log.new }
+) -> Result<(), Refusal>
+    ensures { OfCoordinator (call (ack_call place pid epoch position)) s.old log.old (reply (answer_of result)) s.new log.new }
 {
     completion::ack(s, log, place, pid, epoch, position)
 }
 
 // Produce.
 pub fn produce(
-    s: Coordinator,
-    p: Partition,
+    s: &Coordinator,
+    p: &mut Partition,
     words: &mut [u64],
     name: &[u8],
     pid: i64,
@@ -108,30 +122,35 @@ pub fn produce(
     position: usize,
     sequence: i32,
     payload: u64,
-) -> Produced
-    ensures { OfPartition (produce_call name.now pid epoch position sequence payload) s p words.old (produce_reply result.answer) result.state words.new }
+) -> Result<usize, Refusal>
+    ensures { OfPartition (produce_call name.now pid epoch position sequence payload) s.now p.old words.old (produce_reply (produce_answer_of result)) p.new words.new }
 {
     server::produce(s, p, words, name, pid, epoch, position, sequence, payload)
 }
 
 // Marker.
 pub fn marker(
-    p: Partition,
+    p: &mut Partition,
     words: &mut [u64],
     place: usize,
     pid: i64,
     epoch: i16,
     verdict: u64,
     coordinator: i32,
-) -> Marked
-    ensures { OfMarker (marker_call place pid epoch verdict coordinator) p words.old (reply result.answer) result.state words.new }
+) -> Result<(), Refusal>
+    ensures { OfMarker (marker_call place pid epoch verdict coordinator) p.old words.old (reply (answer_of result)) p.new words.new }
 {
     partition::marker(p, words, place, pid, epoch, verdict, coordinator)
 }
 
 // Read.
-pub fn read(p: Partition, words: &[u64], from: usize, out: &mut [u64]) -> ReadAnswer
-    ensures { OfRead from p words.now out.old (read_reply result) out.new }
+pub fn read(
+    p: &Partition,
+    words: &[u64],
+    from: usize,
+    out: &mut [u64],
+) -> Result<Copied, Refusal>
+    ensures { OfRead from p.now words.now out.old (read_reply (read_answer_of result)) out.new }
 {
     committed_reader::read(p, words, from, out)
 }

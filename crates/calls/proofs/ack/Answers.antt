@@ -5,6 +5,7 @@ use mir.Syntax.{w16, w64}
 use mir.Val.{of_z, to_z}
 use borrow.Author.Rules.{rules}
 use Rattle.answers.specs.Answers.{reply}
+use Rattle.answers.specs.Returned.{answer_of}
 use Rattle.coordinator.specs.Ack.{ack}
 use Rattle.coordinator.specs.Calls.{CoordinatorCall, ack_call}
 use Rattle.server.specs.Calls.{call}
@@ -18,6 +19,6 @@ returns c =
     let r = c.ack in
     let pid : to_z w64 (of_z w64 a.pid) ≡ a.pid = search rules in
     let epoch : to_z w16 (of_z w16 a.epoch) ≡ a.epoch = search rules in
-    subst (λ (d : CoordinatorCall). OfCoordinator (call d) a.s a.log.now (reply r.result.answer) r.result.state r.new.log)
+    subst (λ (d : CoordinatorCall). OfCoordinator (call d) a.s.now a.log.now (reply (answer_of r.result)) r.new.s r.new.log)
     (λ i. ack_call a.place (pid i) (epoch i) a.position)
-    (coordinator-meets reply (ack a.s (length a.log.now) a.place (to_z w64 (of_z w64 a.pid)) (to_z w16 (of_z w16 a.epoch)) a.position) a.s a.log.now _ _ _ r.ensures)
+    (coordinator-meets reply (ack a.s.now (length a.log.now) a.place (to_z w64 (of_z w64 a.pid)) (to_z w16 (of_z w16 a.epoch)) a.position) a.s.now a.log.now _ _ _ r.ensures)

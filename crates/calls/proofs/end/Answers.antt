@@ -5,6 +5,7 @@ use mir.Syntax.{w16, w64}
 use mir.Val.{of_z, to_z}
 use borrow.Author.Rules.{rules}
 use Rattle.answers.specs.Answers.{reply}
+use Rattle.answers.specs.Returned.{answer_of}
 use Rattle.coordinator.specs.End.{end}
 use Rattle.coordinator.specs.Calls.{CoordinatorCall, end_call}
 use Rattle.server.specs.Calls.{call}
@@ -19,6 +20,6 @@ returns c =
     let pid : to_z w64 (of_z w64 a.pid) ≡ a.pid = search rules in
     let epoch : to_z w16 (of_z w16 a.epoch) ≡ a.epoch = search rules in
     let time : to_z w64 (of_z w64 a.time) ≡ a.time = search rules in
-    subst (λ (d : CoordinatorCall). OfCoordinator (call d) a.s a.log.now (reply r.result.answer) r.result.state r.new.log)
+    subst (λ (d : CoordinatorCall). OfCoordinator (call d) a.s.now a.log.now (reply (answer_of r.result)) r.new.s r.new.log)
     (λ i. end_call a.name.now (pid i) (epoch i) a.verdict (time i))
-    (coordinator-meets reply (end a.s (length a.log.now) a.name.now (to_z w64 (of_z w64 a.pid)) (to_z w16 (of_z w16 a.epoch)) a.verdict (to_z w64 (of_z w64 a.time))) a.s a.log.now _ _ _ r.ensures)
+    (coordinator-meets reply (end a.s.now (length a.log.now) a.name.now (to_z w64 (of_z w64 a.pid)) (to_z w16 (of_z w16 a.epoch)) a.verdict (to_z w64 (of_z w64 a.time))) a.s.now a.log.now _ _ _ r.ensures)

@@ -1,2 +1,0 @@
--- Definitions of the crate completion.
-pub mod Parts
