@@ -99,7 +99,5 @@ pub fn after_cut(
 pub fn outcome(before: Coordinator, after: Coordinator) -> u64
     ensures { result ≡ outcome before.flushed before.table after.table }
 {
-    let old = before.table;
-    let new = after.table;
-    cut_outcomes::outcome(before.flushed, old, new)
+    cut_outcomes::outcome(before.flushed, &before.table, &after.table)
 }

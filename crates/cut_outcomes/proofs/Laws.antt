@@ -1,32 +1,36 @@
--- Laws of outcomes: a search among those seen from a place on, one place more of an outcome, and what is noted.
-use Prim.Native.Nat.{ℕ, ◌+◌, ◌≤◌, ◌<◌}
-use mathlib.Core.Path.{◌≡◌, sym, ◌∙◌}
+-- Laws of outcomes: a search among those seen, one place more of an outcome, and what is noted.
+use Prim.Native.Nat.{ℕ, ◌+◌, ◌<◌}
+use mathlib.Core.Path.{◌≡◌, refl, sym, ◌∙◌}
 use mathlib.Core.Bool.{true, false}
 use mathlib.Core.List.{List, [], ◌∷◌}
 use native.Mathlib.Numerals.{add-one}
+use native.Mathlib.Decide.{ℕ_discrete}
 use native.Mathlib.Omega.{arith}
-use lib.ListN.{length, take, drop, get_or, set, drop_of_length-le, length-append}
-use lib.Seq.{drop-cons, take-suc-set, length-take-le}
-use borrow.Author.Tests.{eq-eqb, ne_eqb}
+use lib.Dec.{eqb}
+use lib.ListN.{length, take, set, length-append}
+use lib.Seq.{take-suc-set, length-take-le}
+use borrow.Author.Tests.{ne_eqb}
+use Rattle.std.specs.List.{list_any}
 use Rattle.answers.specs.Refusals.{among}
 use Rattle.row.specs.declared.Row.{Row}
 use Rattle.table.specs.Table.{row_at}
 use Rattle.table.specs.declared.Table.{Table}
 use Rattle.cut_outcomes.specs.Outcomes.{followed, with_ending, outcome_below, Noted}
 
--- ---- those seen, from a place on
+-- ---- those seen
 
-pub among-here : (o : ℕ) (l : List ℕ) (i : ℕ) → i < length l → o ≡ get_or l i 0 → among o (drop i l) ≡ true
-unfolding among
-among-here o l i h e = rw (drop-cons l i 0 h, eq-eqb _ _ e)
+same_way : (n m : ℕ) → eqb m n ≡ eqb n m
+same_way n m = go (ℕ_discrete m n)
+  where
+    go : Dec (m ≡ n) → eqb m n ≡ eqb n m
+    go (yes e) = rw e refl
+    go (no h) = rw (ne_eqb m n h, ne_eqb n m (λ e. h (sym e))) refl
 
-pub among-on : (o : ℕ) (l : List ℕ) (i : ℕ) → i < length l → (o ≡ get_or l i 0 → ⊥) → among o (drop i l) ≡ among o (drop (i + 1) l)
+-- the library's search among them
+pub contains-is : (o : ℕ) (l : List ℕ) → list_any (λ (m : ℕ). eqb m o) l ≡ among o l
 unfolding among
-among-on o l i h n = rw (drop-cons l i 0 h, ne_eqb _ _ n, add-one i)
-
-pub among-end : (o : ℕ) (l : List ℕ) (i : ℕ) → length l ≤ i → among o (drop i l) ≡ false
-unfolding among
-among-end o l i h = rw (drop_of_length-le l h)
+contains-is o [] = refl
+contains-is o (m ∷ l) = rw (same_way o m, contains-is o l) refl
 
 -- ---- an outcome at one place more
 

@@ -3,7 +3,6 @@
 
 ghost use Rattle.std.specs.Prelude.{◌≡◌, ◌<◌, length};
 ghost use Rattle.answers.specs.Limits.{places};
-ghost use Rattle.answers.specs.Refusals.{among};
 ghost use Rattle.cut_outcomes.specs.Outcomes.{is_complete, followed, with_ending, outcome, Noted};
 
 use record::Status;
@@ -16,25 +15,18 @@ use table::Table;
 fn is_complete(status: Status) -> bool
     ensures { result ≡ is_complete status }
 {
-    match status {
-        Status::Empty => false,
-        Status::Begin => false,
-        Status::PrepareCommit => false,
-        Status::PrepareAbort => false,
-        Status::CompleteCommit => true,
-        Status::CompleteAbort => true,
-    }
+    matches!(status, Status::CompleteCommit | Status::CompleteAbort)
 }
 
 // Whether the latest flushed record of an id is a prepare.
+#[tactic(auto, unfolding(crate::specs::Outcomes::followed))]
 fn is_followed(flushed: usize, row: Row) -> bool
     ensures { result ≡ followed flushed row }
 {
-    let status = row.status;
     if flushed < row.end {
-        return is_complete(status);
+        return is_complete(row.status);
     }
-    row::is_prepare(status)
+    row::is_prepare(row.status)
 }
 
 // An outcome with the ending of one more id. Only for callers that have a place.
@@ -43,47 +35,26 @@ fn with_ending(set: u64, place: usize, status: Status) -> u64
     ensures { result ≡ with_ending set place status }
 {
     match status {
-        Status::Empty => set,
-        Status::Begin => set,
-        Status::PrepareCommit => set,
-        Status::PrepareAbort => set,
         Status::CompleteCommit => bits::insert(set, place),
         Status::CompleteAbort => bits::insert(set, answers::PLACES + place),
+        _ => set,
     }
 }
 
 // The outcome of a cut: of the flushed length and the table before it, and the table after it.
-pub fn outcome(flushed: usize, before: Table, after: Table) -> u64
-    ensures { result ≡ outcome flushed before after }
+pub fn outcome(flushed: usize, before: &Table, after: &Table) -> u64
+    ensures { result ≡ outcome flushed before.now after.now }
 {
     let mut set: u64 = 0;
-    let mut place: usize = 0;
-    while place < answers::PLACES {
-        if is_followed(flushed, before.rows[place]) {
-            let row = after.rows[place];
-            let status = row.status;
-            set = with_ending(set, place, status);
+    for place in 0..answers::PLACES {
+        if is_followed(flushed, table::row_at(before, place)) {
+            set = with_ending(set, place, table::row_at(after, place).status);
         }
-        place += 1;
     }
     set
 }
 
 // ---- The outcomes that were seen.
-
-// Whether an outcome is one of those seen.
-fn is_among(seen: &[u64], outcome: u64) -> bool
-    ensures { result ≡ among outcome seen.now }
-{
-    let mut i: usize = 0;
-    while i < seen.len() {
-        if outcome == seen[i] {
-            return true;
-        }
-        i += 1;
-    }
-    false
-}
 
 // Notes an outcome behind the first `count` of a store, if it is new and there is room; the answer is how many there are then.
 pub fn note(store: &mut [u64], count: usize, outcome: u64) -> usize
@@ -92,7 +63,7 @@ pub fn note(store: &mut [u64], count: usize, outcome: u64) -> usize
     if store.len() <= count {
         return count;
     }
-    if is_among(&store[..count], outcome) {
+    if store[..count].contains(&outcome) {
         return count;
     }
     store[count] = outcome;
