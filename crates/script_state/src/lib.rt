@@ -50,7 +50,8 @@ impl State {
         };
         State {
             text: ArrayVec::try_from(&first[..]).unwrap_or_default(),
-            coordinator: calls::opening(first, &log, 0, 1, 1000, 1999).state,
+            coordinator: calls::opening(first, &log, 0, 1, 1000, 1999)
+                .unwrap_or(opening::blank_state()),
             log,
             partitions: [empty; PARTITIONS],
         }
