@@ -144,12 +144,7 @@ pub fn marker(
 }
 
 // Read.
-pub fn read(
-    p: &Partition,
-    words: &[u64],
-    from: usize,
-    out: &mut [u64],
-) -> Result<Copied, Refusal>
+pub fn read(p: &Partition, words: &[u64], from: usize, out: &mut [u64]) -> Result<Copied, Refusal>
     ensures { OfRead from p.now words.now out.old (read_reply (read_answer_of result)) out.new }
 {
     committed_reader::read(p, words, from, out)
