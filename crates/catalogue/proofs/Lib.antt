@@ -1,6 +1,6 @@
 -- Laws of the crate catalogue: the public modules are for callers, the others for the crate's own proofs.
 pub mod Positions
-mod Names
+pub mod Names
 mod Reading
 mod Topics
 pub mod Format

@@ -4,7 +4,7 @@
 use command::Command;
 use fields::Part;
 use input_lines::Step;
-use listing::{Rendered, Reply, Results};
+use listing::{Reply, Results};
 use std::io;
 
 // A short buffer, so that many lines do not fit it.
@@ -23,7 +23,7 @@ fn print(
 ) -> io::Result<()> {
     let mut out = [0u8; OUT_ROOM];
     let rendered = listing::render(&mut out, 0, row, reply, first, second, payloads);
-    if let Rendered::Next(end) = rendered {
+    if let Some(end) = rendered {
         if end <= OUT_ROOM {
             rt.write_all(&out[..end])?;
         }
@@ -45,8 +45,7 @@ fn print_named(
 }
 
 fn print_two(rt: &impl Print, row: usize, a: i64, b: i64, name: Part) -> io::Result<()> {
-    let payloads = [0u64; 2];
-    print_named(rt, row, 0, Results::Two(a, b), name, &payloads)
+    print_named(rt, row, 0, Results::Two(a, b), name, &[])
 }
 
 fn print_three(
@@ -57,20 +56,16 @@ fn print_three(
     third: i64,
     name: Part,
 ) -> io::Result<()> {
-    let payloads = [0u64; 2];
     let results = Results::Three {
         first,
         second,
         third,
     };
-    print_named(rt, row, 0, results, name, &payloads)
+    print_named(rt, row, 0, results, name, &[])
 }
 
 fn print_payloads(rt: &impl Print, row: usize, a: u64, b: u64, name: Part) -> io::Result<()> {
-    let mut payloads = [0u64; 2];
-    payloads[0] = a;
-    payloads[1] = b;
-    print_named(rt, row, 0, Results::Payloads(2), name, &payloads)
+    print_named(rt, row, 0, Results::Payloads(2), name, &[a, b])
 }
 
 fn print_one(rt: &impl Print, row: usize, a: u64) -> io::Result<()> {
@@ -78,8 +73,7 @@ fn print_one(rt: &impl Print, row: usize, a: u64) -> io::Result<()> {
 }
 
 fn print_other(rt: &impl Print, row: usize, reply: Reply) -> io::Result<()> {
-    let payloads = [0u64; 1];
-    print(rt, row, reply, 1, 18446744073709551615, &payloads)
+    print(rt, row, reply, 1, usize::MAX, &[])
 }
 
 // Writes a command of a producer: its pid and epoch, one more signed number, and two others.
@@ -158,10 +152,10 @@ fn print_command(rt: &impl Print, c: Command) -> io::Result<()> {
 // Writes what a line is that was read. One that did not fit the buffer is no command.
 fn print_step(rt: &impl Print, buffer: &[u8], step: Step) -> io::Result<()> {
     match step {
-        Step::Line { from, len, rest: _ } => {
+        Step::Line { from, len, .. } => {
             print_command(rt, command::parse(input_lines::part(buffer, from, len)))
         }
-        Step::Long { rest: _ } => print_command(rt, Command::Unknown),
+        Step::Long { .. } => print_command(rt, Command::Unknown),
         _ => Ok(()),
     }
 }

@@ -6,7 +6,7 @@ use lines::{Cursor, Last, Next};
 use std::io;
 use std::io::Read;
 
-// A line and where the buffer is read on behind it; one that did not fit the buffer; a part that ends no line; or the end of the input.
+// A line, by its place since the buffer is written again between lines, and where the buffer is read on behind it; one that did not fit the buffer; a part that ends no line; or the end of the input.
 #[derive(Clone, Copy)]
 pub enum Step {
     Line {
@@ -83,22 +83,13 @@ pub fn next(input: &mut impl Read, buffer: &mut [u8], cursor: Cursor) -> io::Res
 
 // Whether the input is at its end.
 pub fn is_end(step: Step) -> bool {
-    match step {
-        Step::End => true,
-        _ => false,
-    }
+    matches!(step, Step::End)
 }
 
 // Where the buffer is read on.
 pub fn behind(step: Step) -> Cursor {
     match step {
-        Step::Line {
-            from: _,
-            len: _,
-            rest,
-        } => rest,
-        Step::Long { rest } => rest,
-        Step::Part { rest } => rest,
+        Step::Line { rest, .. } | Step::Long { rest } | Step::Part { rest } => rest,
         Step::End => start(),
     }
 }

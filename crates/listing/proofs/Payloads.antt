@@ -1,9 +1,12 @@
--- Laws of the loop that writes payloads.
-use Prim.Native.Nat.{ℕ, zero, suc, ◌+◌, ◌≤◌, ◌<◌}
-use mathlib.Core.Path.{◌≡◌, refl, sym, ap, ◌∙◌}
+-- Laws of the loops that write a field for each element, and of the payloads that are written.
+use Prim.Native.Nat.{ℕ, suc, ◌+◌, ◌≤◌, ◌<◌}
+use mathlib.Core.Path.{◌≡◌, refl, ap, ◌∙◌}
 use mathlib.Core.List.{List, [], ◌∷◌, ◌++◌, map}
 use native.Mathlib.Numerals.{add-one}
 use native.Mathlib.Omega.{arith}
+use mathlib.Core.Bool.{true, false}
+use borrow.Author.Tests.{eqb-true, eqb-false}
+use lib.Dec.{eqb}
 use lib.ListN.{length, take, get_or}
 use lib.Seq.{take-suc, take_all}
 use Rattle.text.specs.Decimal.{decimal}
@@ -12,47 +15,42 @@ use Rattle.text.proofs.Lines.{none-wrote, fields-append, fields-one}
 use Rattle.listing.specs.Listing.{none, payload_fields}
 use Rattle.listing.proofs.Writing.{behind}
 
--- nothing is written before the first turn
-pub none_yet : (payloads s : List ℕ) (at : ℕ) → Wrote (fields (map decimal (take 0 payloads))) s at at s
-unfolding fields
-none_yet payloads s at = none-wrote s at
+map-append : {A : Type 0} (text : A → List ℕ) (a b : List A) → map text (a ++ b) ≡ map text a ++ map text b
+map-append text [] b = refl
+map-append text (x ∷ a) b = ap (λ (l : List (List ℕ)). text x ∷ l) (map-append text a b)
 
-map-append : (a b : List ℕ) → map decimal (a ++ b) ≡ map decimal a ++ map decimal b
-map-append [] b = refl
-map-append (x ∷ a) b = ap (λ (l : List (List ℕ)). decimal x ∷ l) (map-append a b)
+-- `text` is what is written of an element
+module _ {A : Type 0} (text : A → List ℕ) (items : List A) (s : List ℕ) (at : ℕ) where
+  -- nothing is written before the first turn
+  pub none_yet : Wrote (fields (map text (take 0 items))) s at at s
+  unfolding fields
+  none_yet = none-wrote s at
 
-fields-more : (payloads : List ℕ) (i : ℕ) → i < length payloads
-    → fields (map decimal (take (i + 1) payloads)) ≡ fields (map decimal (take i payloads)) ++ field (decimal (get_or payloads i 0))
-fields-more payloads i h =
-    let t : take (i + 1) payloads ≡ take i payloads ++ (get_or payloads i 0 ∷ []) = rw (add-one i) (take-suc payloads i 0 h) in
-    ap (λ (l : List ℕ). fields (map decimal l)) t
-    ∙ ap fields (map-append (take i payloads) (get_or payloads i 0 ∷ []))
-    ∙ fields-append (map decimal (take i payloads)) (decimal (get_or payloads i 0) ∷ [])
-    ∙ ap (λ (l : List ℕ). fields (map decimal (take i payloads)) ++ l) (fields-one (decimal (get_or payloads i 0)))
+  fields-more : (d : A) (i : ℕ) → i < length items → fields (map text (take (i + 1) items)) ≡ fields (map text (take i items)) ++ field (text (get_or items i d))
+  fields-more d i h =
+      let t : take (i + 1) items ≡ take i items ++ (get_or items i d ∷ []) = rw (add-one i) (take-suc items i d h) in
+      ap (λ (l : List A). fields (map text l)) t
+      ∙ ap fields (map-append text (take i items) (get_or items i d ∷ []))
+      ∙ fields-append (map text (take i items)) (text (get_or items i d) ∷ [])
+      ∙ ap (λ (l : List ℕ). fields (map text (take i items)) ++ l) (fields-one (text (get_or items i d)))
 
-pub one_more : (payloads s : List ℕ) (at i : ℕ) {next last : ℕ} {t u : List ℕ} → i < length payloads → Wrote (fields (map decimal (take i payloads))) s at next t
-    → Wrote (field (decimal (get_or payloads i 0))) t next last u
-    → last ≤ length s
-    → Wrote (fields (map decimal (take (i + 1) payloads))) s at last u
-one_more payloads s at i h w v l =
-    rw (fields-more payloads i h) (behind (fields (map decimal (take i payloads))) (field (decimal (get_or payloads i 0))) s at w v l)
+  pub one_more : (d : A) (i : ℕ) {next last : ℕ} {t u : List ℕ} → i < length items → Wrote (fields (map text (take i items))) s at next t
+      → Wrote (field (text (get_or items i d))) t next last u
+      → last ≤ length s
+      → Wrote (fields (map text (take (i + 1) items))) s at last u
+  one_more d i h w v l =
+      rw (fields-more d i h) (behind (fields (map text (take i items))) (field (text (get_or items i d))) s at w v l)
 
--- ---- so many, or as many as there are; `-` for none
+  -- all is written after the last
+  pub all_written : (i : ℕ) {next : ℕ} {t : List ℕ} → length items ≤ i → Wrote (fields (map text (take i items))) s at next t → Wrote (fields (map text items)) s at next t
+  all_written i h w = rw (take_all i items h) at w
 
-pub no_payload : (payloads : List ℕ) (count : ℕ) → count ≡ 0 → payload_fields (take count payloads) ≡ none ∷ []
-no_payload payloads count e = rw e
+-- ---- the payloads that are listed; `-` for none
 
-pub no-payloads : (payloads : List ℕ) (count : ℕ) → length payloads ≡ 0 → payload_fields (take count payloads) ≡ none ∷ []
-no-payloads [] count e = ap payload_fields (take_all count [] (omega arith))
-no-payloads (x ∷ payloads) count e = absurd (omega arith)
+pub no-payloads : (listed : List ℕ) → eqb (length listed) 0 ≡ true → payload_fields listed ≡ none ∷ []
+no-payloads [] e = refl
+no-payloads (x ∷ listed) e = absurd (omega (arith, eqb-true (suc (length listed)) 0 e))
 
-pub some-payloads : (payloads : List ℕ) (count : ℕ) → (count ≡ 0 → ⊥) → (length payloads ≡ 0 → ⊥) → payload_fields (take count payloads) ≡ map decimal (take count payloads)
-some-payloads [] count c d = absurd (d refl)
-some-payloads (x ∷ payloads) count c d = go count c
-  where
-    go : (n : ℕ) → (n ≡ 0 → ⊥) → payload_fields (take n (x ∷ payloads)) ≡ map decimal (take n (x ∷ payloads))
-    go zero e = absurd (e refl)
-    go (suc n) e = refl
-
-pub all-payloads : (payloads : List ℕ) (count : ℕ) → length payloads < count → take (length payloads) payloads ≡ take count payloads
-all-payloads payloads count h = take_all (length payloads) payloads (omega arith) ∙ sym (take_all count payloads (omega arith))
+pub some-payloads : (listed : List ℕ) → eqb (length listed) 0 ≡ false → payload_fields listed ≡ map decimal listed
+some-payloads [] e = absurd (omega (arith, eqb-false 0 0 e))
+some-payloads (x ∷ listed) e = refl

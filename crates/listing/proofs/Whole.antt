@@ -9,19 +9,19 @@ use Rattle.text.specs.Lines.{Wrote}
 use Rattle.listing.specs.Limits.{field_max, fields_fixed, line_max}
 use Rattle.listing.specs.Listing.{reply_line, render_answer, render_bytes}
 use Rattle.listing.specs.declared.Reply.{Reply}
-use Rattle.listing.specs.declared.Rendered.TheVariants.{Next, NoRoom}
+use Rattle.std.specs.Prelude.{Some, None}
 
 module _ (row : ℕ) (reply : Reply) (log flushed : ℕ) (payloads out : List ℕ) (at : ℕ) where
   pub no_room : length out < at + line_max (length payloads)
-      → (NoRoom ≡ render_answer row reply log flushed payloads out at) × (out ≡ render_bytes row reply log flushed payloads out at)
+      → (None ≡ render_answer row reply log flushed payloads out at) × (out ≡ render_bytes row reply log flushed payloads out at)
   unfolding render_answer render_bytes
   no_room h = (rw (lt-ltb (length out) (at + line_max (length payloads)) h), rw (lt-ltb (length out) (at + line_max (length payloads)) h))
 
   pub rendered : {next : ℕ} {after : List ℕ} → at + line_max (length payloads) ≤ length out → Wrote (reply_line row reply log flushed payloads) out at next after
-      → (Next next ≡ render_answer row reply log flushed payloads out at) × (after ≡ render_bytes row reply log flushed payloads out at)
+      → (Some next ≡ render_answer row reply log flushed payloads out at) × (after ≡ render_bytes row reply log flushed payloads out at)
   unfolding render_answer render_bytes
   rendered h w =
-      (rw (le-ltb (length out) (at + line_max (length payloads)) h) (ap Next w.0), rw (le-ltb (length out) (at + line_max (length payloads)) h) w.1)
+      (rw (le-ltb (length out) (at + line_max (length payloads)) h) (ap Some w.0), rw (le-ltb (length out) (at + line_max (length payloads)) h) w.1)
 
 -- the tests of the function
 module _ (n at payloads : ℕ) where

@@ -1,5 +1,5 @@
 -- The answer lines of the listing.
-use Rattle.std.specs.Prelude.{ℕ, ◌+◌, ◌≤◌, cond, List, [], ◌∷◌, map, ltb, length, take}
+use Rattle.std.specs.Prelude.{ℕ, ◌+◌, ◌≤◌, cond, List, [], ◌∷◌, map, ltb, length, take, Option, Some, None}
 use Rattle.numbers.specs.Bytes.{overwrite}
 use Rattle.numbers.specs.Ascii.{ascii}
 use Rattle.text.specs.Decimal.{decimal, signed_decimal}
@@ -10,8 +10,6 @@ use Rattle.listing.specs.declared.Results.{Results}
 use Rattle.listing.specs.declared.Results.TheVariants.{Empty, Absent, One, Two, Three, Payloads}
 use Rattle.listing.specs.declared.Reply.{Reply}
 use Rattle.listing.specs.declared.Reply.TheVariants.{Unknown, Answered}
-use Rattle.listing.specs.declared.Rendered.{Rendered}
-use Rattle.listing.specs.declared.Rendered.TheVariants.{Next, NoRoom}
 
 -- "`-` is none"
 abbrev pub none : List ℕ
@@ -45,15 +43,15 @@ reply_line row reply log flushed payloads =
     line (word_at row) (number_field reply ∷ decimal log ∷ decimal flushed ∷ result_fields (results_of reply) payloads)
 
 -- the answer of the function, and the buffer; one that does not hold every line with so many payloads is left as it was
-unfoldable pub render_answer : ℕ → Reply → ℕ → ℕ → List ℕ → List ℕ → ℕ → Rendered
+unfoldable pub render_answer : ℕ → Reply → ℕ → ℕ → List ℕ → List ℕ → ℕ → Option ℕ
 render_answer row reply log flushed payloads out at =
-    cond (ltb (length out) (at + line_max (length payloads))) NoRoom (Next (at + length (reply_line row reply log flushed payloads)))
+    cond (ltb (length out) (at + line_max (length payloads))) None (Some (at + length (reply_line row reply log flushed payloads)))
 
 unfoldable pub render_bytes : ℕ → Reply → ℕ → ℕ → List ℕ → List ℕ → ℕ → List ℕ
 render_bytes row reply log flushed payloads out at =
     cond (ltb (length out) (at + line_max (length payloads))) out (overwrite out at (reply_line row reply log flushed payloads))
 
 -- the line lies in a buffer of n bytes
-abbrev pub Within : Rendered → ℕ → Type 0
-Within (Next next) n = next ≤ n
-Within NoRoom n = Unit {0}
+abbrev pub Within : Option ℕ → ℕ → Type 0
+Within (Some next) n = next ≤ n
+Within None n = Unit {0}

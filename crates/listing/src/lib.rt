@@ -32,13 +32,6 @@ pub enum Reply {
     Answered { number: u8, results: Results },
 }
 
-// The place behind the line, or that the buffer is too short for some lines.
-#[derive(Clone, Copy)]
-pub enum Rendered {
-    Next(usize),
-    NoRoom,
-}
-
 // ---- The parts of a line, each written at a place where it fits; the answer is the place behind it.
 
 // Writes 0, the number of the refusal or `-`.
@@ -48,7 +41,7 @@ fn write_number(reply: Reply, out: &mut [u8], at: usize) -> usize
 {
     match reply {
         Reply::Unknown => text::write_field(out, at, b"-"),
-        Reply::Answered { number, results: _ } => text::write_field(out, at, number as u64),
+        Reply::Answered { number, .. } => text::write_field(out, at, u64::from(number)),
     }
 }
 
@@ -58,46 +51,30 @@ fn results_of(reply: Reply) -> Results
 {
     match reply {
         Reply::Unknown => Results::Empty,
-        Reply::Answered { number: _, results } => results,
+        Reply::Answered { results, .. } => results,
     }
 }
 
-// Writes a number.
-fn write_one(a: i64, out: &mut [u8], at: usize) -> usize
-    requires { at + field_max ≤ length out.old }
-    ensures { Wrote (fields (signed_decimal a ∷ [])) out.old at result out.new × (result ≤ at + field_max) }
-{
-    text::write_field(out, at, a)
-}
-
-// Writes two numbers.
-fn write_two(a: i64, b: i64, out: &mut [u8], at: usize) -> usize
-    requires { at + 2 * field_max ≤ length out.old }
-    ensures { Wrote (fields (signed_decimal a ∷ signed_decimal b ∷ [])) out.old at result out.new × (result ≤ at + 2 * field_max) }
-{
-    let next = text::write_field(out, at, a);
-    write_one(b, out, next)
-}
-
-// Writes three numbers.
-fn write_three(a: i64, b: i64, c: i64, out: &mut [u8], at: usize) -> usize
-    requires { at + 3 * field_max ≤ length out.old }
-    ensures { Wrote (fields (signed_decimal a ∷ signed_decimal b ∷ signed_decimal c ∷ [])) out.old at result out.new × (result ≤ at + 3 * field_max) }
-{
-    let next = text::write_field(out, at, a);
-    write_two(b, c, out, next)
-}
-
-// Writes the first n payloads.
-fn write_payloads(payloads: &[u64], n: usize, out: &mut [u8], at: usize) -> usize
-    requires { (n ≤ length payloads.now) × (at + n * field_max ≤ length out.old) }
-    ensures { Wrote (fields (map decimal (take n payloads.now))) out.old at result out.new × (result ≤ at + n * field_max) }
+// Writes numbers.
+fn write_signed(numbers: &[i64], out: &mut [u8], at: usize) -> usize
+    requires { at + length numbers.now * field_max ≤ length out.old }
+    ensures { Wrote (fields (map signed_decimal numbers.now)) out.old at result out.new × (result ≤ at + length numbers.now * field_max) }
 {
     let mut next = at;
-    let mut i: usize = 0;
-    while i < n {
-        next = text::write_field(out, next, payloads[i]);
-        i += 1;
+    for number in numbers {
+        next = text::write_field(out, next, *number);
+    }
+    next
+}
+
+// Writes payloads.
+fn write_payloads(payloads: &[u64], out: &mut [u8], at: usize) -> usize
+    requires { at + length payloads.now * field_max ≤ length out.old }
+    ensures { Wrote (fields (map decimal payloads.now)) out.old at result out.new × (result ≤ at + length payloads.now * field_max) }
+{
+    let mut next = at;
+    for payload in payloads {
+        next = text::write_field(out, next, *payload);
     }
     next
 }
@@ -107,16 +84,11 @@ fn write_read(payloads: &[u64], count: usize, out: &mut [u8], at: usize) -> usiz
     requires { at + results_max (length payloads.now) ≤ length out.old }
     ensures { Wrote (fields (payload_fields (take count payloads.now))) out.old at result out.new × (result ≤ at + results_max (length payloads.now)) }
 {
-    if count == 0 {
+    let listed = &payloads[..count.min(payloads.len())];
+    if listed.is_empty() {
         return text::write_field(out, at, b"-");
     }
-    if payloads.len() == 0 {
-        return text::write_field(out, at, b"-");
-    }
-    if payloads.len() < count {
-        return write_payloads(payloads, payloads.len(), out, at);
-    }
-    write_payloads(payloads, count, out, at)
+    write_payloads(listed, out, at)
 }
 
 // Writes the results.
@@ -127,13 +99,13 @@ fn write_results(results: Results, payloads: &[u64], out: &mut [u8], at: usize) 
     match results {
         Results::Empty => at,
         Results::Absent => text::write_field(out, at, b"-"),
-        Results::One(a) => write_one(a, out, at),
-        Results::Two(a, b) => write_two(a, b, out, at),
+        Results::One(a) => write_signed(&[a], out, at),
+        Results::Two(a, b) => write_signed(&[a, b], out, at),
         Results::Three {
             first,
             second,
             third,
-        } => write_three(first, second, third, out, at),
+        } => write_signed(&[first, second, third], out, at),
         Results::Payloads(count) => write_read(payloads, count, out, at),
     }
 }
@@ -143,10 +115,7 @@ fn write_word(row: usize, out: &mut [u8], at: usize) -> usize
     requires { at + word_max ≤ length out.old }
     ensures { Wrote (word_at row) out.old at result out.new × (result ≤ at + word_max) }
 {
-    let word = command::word_at(row);
-    let letters = word.letters;
-    let len = word.len;
-    text::write_bytes(out, at, &letters[..len])
+    text::write_bytes(out, at, command::word_at(row))
 }
 
 // Writes a line.
@@ -179,20 +148,20 @@ pub fn render(
     log: usize,
     flushed: usize,
     payloads: &[u64],
-) -> Rendered
+) -> Option<usize>
     ensures answer { result ≡ render_answer row reply log flushed payloads.now out.old at }
     ensures bytes { out.new ≡ render_bytes row reply log flushed payloads.now out.old at }
     ensures within { Within result (length out.old) }
 {
     if out.len() < at {
-        return Rendered::NoRoom;
+        return None;
     }
     let room = (out.len() - at) / FIELD_MAX;
     if room < FIELDS_FIXED {
-        return Rendered::NoRoom;
+        return None;
     }
     if room - FIELDS_FIXED < payloads.len() {
-        return Rendered::NoRoom;
+        return None;
     }
-    Rendered::Next(write_line(out, at, row, reply, log, flushed, payloads))
+    Some(write_line(out, at, row, reply, log, flushed, payloads))
 }

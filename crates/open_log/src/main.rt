@@ -9,10 +9,7 @@ const PATH_ROOM: usize = 4096;
 
 // Whether there is such an argument; the program's own name is argument 0.
 fn has_argument(rt: &impl Env, i: usize) -> bool {
-    match rt.arg(i, &mut []) {
-        Err(FillError::NotPresent) => false,
-        _ => true,
-    }
+    !matches!(rt.arg(i, &mut []), Err(FillError::NotPresent))
 }
 
 // Says why an argument is not taken. Where standard error takes nothing, nothing is left to be said.
@@ -24,27 +21,35 @@ fn fail(rt: &impl Eprint, what: &str, error: FillError) {
     let _ = eprintln!(rt; "{what}: {reason}");
 }
 
+// The argument at a place, in this room; where it is not taken, that is said.
+fn argument<'a>(
+    rt: &(impl Env + Eprint),
+    i: usize,
+    what: &str,
+    room: &'a mut [u8],
+) -> Option<&'a [u8]> {
+    match rt.arg(i, room) {
+        Ok(length) => Some(&room[..length]),
+        Err(error) => {
+            fail(rt, what, error);
+            None
+        }
+    }
+}
+
 fn main(rt: HostRuntime) {
     if !has_argument(&rt, 2) || has_argument(&rt, 3) {
         let _ = eprintln!(rt; "usage: open_log CATALOGUE LOG");
         return;
     }
-    let mut catalogue = [0u8; PATH_ROOM];
-    let c = match rt.arg(1, &mut catalogue) {
-        Ok(c) => c,
-        Err(error) => {
-            fail(&rt, "CATALOGUE", error);
-            return;
-        }
+    let mut catalogue_room = [0u8; PATH_ROOM];
+    let Some(catalogue) = argument(&rt, 1, "CATALOGUE", &mut catalogue_room) else {
+        return;
     };
-    let mut log = [0u8; PATH_ROOM];
-    let l = match rt.arg(2, &mut log) {
-        Ok(l) => l,
-        Err(error) => {
-            fail(&rt, "LOG", error);
-            return;
-        }
+    let mut log_room = [0u8; PATH_ROOM];
+    let Some(log) = argument(&rt, 2, "LOG", &mut log_room) else {
+        return;
     };
     let mut buffer = [0u8; log_files::LOG_ROOM];
-    log_files::print_report(&rt, &catalogue[..c], &log[..l], &mut buffer);
+    log_files::print_report(&rt, catalogue, log, &mut buffer);
 }

@@ -4,57 +4,59 @@
 use record::Status;
 use std::io;
 
+// The statuses in the order of their codes.
+const STATUSES: [Status; 6] = [
+    Status::Empty,
+    Status::Begin,
+    Status::PrepareCommit,
+    Status::PrepareAbort,
+    Status::CompleteCommit,
+    Status::CompleteAbort,
+];
+
 // The code and the name of a status.
-fn heading(rt: &impl Print, status: Status) -> io::Result<()> {
+fn heading(status: Status) -> &'static str {
     match status {
-        Status::Empty => print!(rt; "            0 EMPTY"),
-        Status::Begin => print!(rt; "            1 BEGIN"),
-        Status::PrepareCommit => print!(rt; "   2 PREPARE_COMMIT"),
-        Status::PrepareAbort => print!(rt; "    3 PREPARE_ABORT"),
-        Status::CompleteCommit => print!(rt; "  4 COMPLETE_COMMIT"),
-        Status::CompleteAbort => print!(rt; "   5 COMPLETE_ABORT"),
+        Status::Empty => "0 EMPTY",
+        Status::Begin => "1 BEGIN",
+        Status::PrepareCommit => "2 PREPARE_COMMIT",
+        Status::PrepareAbort => "3 PREPARE_ABORT",
+        Status::CompleteCommit => "4 COMPLETE_COMMIT",
+        Status::CompleteAbort => "5 COMPLETE_ABORT",
     }
 }
 
 // Whether the new status may follow the one held.
-fn flag(rt: &impl Print, held: Status, new: Status) -> io::Result<()> {
+fn flag(held: Status, new: Status) -> &'static str {
     if succession::may_follow_status(held, new) {
-        print!(rt; "         may follow")
+        "may follow"
     } else {
-        print!(rt; "                  -")
+        "-"
     }
 }
 
 // The new statuses.
 fn headings(rt: &impl Print) -> io::Result<()> {
-    print!(rt; "                   ")?;
-    heading(rt, Status::Empty)?;
-    heading(rt, Status::Begin)?;
-    heading(rt, Status::PrepareCommit)?;
-    heading(rt, Status::PrepareAbort)?;
-    heading(rt, Status::CompleteCommit)?;
-    heading(rt, Status::CompleteAbort)?;
+    print!(rt; "{:>19}", "")?;
+    for status in STATUSES {
+        print!(rt; "{:>19}", heading(status))?;
+    }
     print!(rt; "\n")
 }
 
 // The status held, and its flags.
 fn row(rt: &impl Print, held: Status) -> io::Result<()> {
-    heading(rt, held)?;
-    flag(rt, held, Status::Empty)?;
-    flag(rt, held, Status::Begin)?;
-    flag(rt, held, Status::PrepareCommit)?;
-    flag(rt, held, Status::PrepareAbort)?;
-    flag(rt, held, Status::CompleteCommit)?;
-    flag(rt, held, Status::CompleteAbort)?;
+    print!(rt; "{:>19}", heading(held))?;
+    for new in STATUSES {
+        print!(rt; "{:>19}", flag(held, new))?;
+    }
     print!(rt; "\n")
 }
 
 fn main(rt: HostRuntime) -> io::Result<()> {
     headings(&rt)?;
-    row(&rt, Status::Empty)?;
-    row(&rt, Status::Begin)?;
-    row(&rt, Status::PrepareCommit)?;
-    row(&rt, Status::PrepareAbort)?;
-    row(&rt, Status::CompleteCommit)?;
-    row(&rt, Status::CompleteAbort)
+    for held in STATUSES {
+        row(&rt, held)?;
+    }
+    Ok(())
 }

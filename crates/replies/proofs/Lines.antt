@@ -19,8 +19,7 @@ use Rattle.listing.specs.Limits.{line_max}
 use Rattle.listing.specs.declared.Reply.{Reply as Shown}
 use Rattle.listing.specs.declared.Reply.TheVariants.{Unknown, Answered}
 use Rattle.listing.specs.declared.Results.TheVariants.{Empty}
-use Rattle.listing.specs.declared.Rendered.{Rendered}
-use Rattle.listing.specs.declared.Rendered.TheVariants.{Next, NoRoom}
+use Rattle.std.specs.Prelude.{Option, Some, None}
 use Rattle.session.specs.Replies.{values_of, reply_of}
 use Rattle.session.specs.declared.Response.{Response}
 use Rattle.session.specs.declared.Results.{Results}
@@ -102,7 +101,7 @@ few-listed : (results : Results) (payloads : List ℕ) → length (numbers_liste
 few-listed results payloads =
     by_cases (λ (l : List ℕ). length l ≤ 3 + length payloads) (is_own results) (λ t. let e = own-length results in omega (arith, e)) (λ t. omega arith)
 
-module _ (row : ℕ) (shown : Shown) (end flushed : ℕ) (listed out : List ℕ) {r : Rendered} {next : ℕ} {left : List ℕ} where
+module _ (row : ℕ) (shown : Shown) (end flushed : ℕ) (listed out : List ℕ) {r : Option ℕ} {next : ℕ} {left : List ℕ} where
   rendered-wrote : line_max (length listed) ≤ length out → r ≡ render_answer row shown end flushed listed out 0 → left ≡ render_bytes row shown end flushed listed out 0
       → next ≡ place_behind r
       → Wrote (reply_line row shown end flushed listed) out 0 next left
@@ -111,12 +110,12 @@ module _ (row : ℕ) (shown : Shown) (end flushed : ℕ) (listed out : List ℕ)
       let f = le-ltb (length out) (0 + line_max (length listed)) (omega (arith, h)) in
       (n ∙ ap place_behind (rw f at a), rw f at b)
 
-behind-within : (r : Rendered) {n next : ℕ} → Within r n → next ≡ place_behind r → next ≤ n
-behind-within (Next k) w e = rw e w
-behind-within NoRoom w e = rw e (omega arith)
+behind-within : (r : Option ℕ) {n next : ℕ} → Within r n → next ≡ place_behind r → next ≤ n
+behind-within (Some k) w e = rw e w
+behind-within None w e = rw e (omega arith)
 
 -- the line of a response is written, wherever its numbers are listed from
-pub wrote-line : (command : Command) (response : Response) (payloads out : List ℕ) (end flushed : ℕ) {row : ℕ} {shown : Shown} {listed : List ℕ} {r : Rendered} {next : ℕ} {left : List ℕ}
+pub wrote-line : (command : Command) (response : Response) (payloads out : List ℕ) (end flushed : ℕ) {row : ℕ} {shown : Shown} {listed : List ℕ} {r : Option ℕ} {next : ℕ} {left : List ℕ}
     → room_for (length payloads) ≤ length out
     → row ≡ row_of_command command
     → shown ≡ reply_rendered command response (length payloads)

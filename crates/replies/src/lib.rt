@@ -11,7 +11,7 @@ ghost use Rattle.replies.specs.Reply.{room_for, place_behind, responded};
 ghost use Rattle.replies.specs.Rendering.{none_rendered, is_own, own_numbers, results_rendered, answer_rendered, reply_rendered};
 
 use command::Command;
-use listing::{Rendered, Reply};
+use listing::Reply;
 use session::{Response, Session};
 
 // The session after a line, and how many bytes of the answer were written; none where the buffer is too short for some answers.
@@ -178,14 +178,11 @@ fn reply_rendered(command: Command, response: Response, lent: usize) -> Reply
 
 // ---- Writing it.
 
-// The place behind the line.
-fn place_behind(rendered: Rendered) -> usize
+// The place behind the line, and the front where it was not written.
+fn place_behind(rendered: Option<usize>) -> usize
     ensures { result ≡ place_behind rendered }
 {
-    match rendered {
-        Rendered::Next(next) => next,
-        Rendered::NoRoom => 0,
-    }
+    rendered.unwrap_or(0)
 }
 
 // Writes the answer line where every answer fits; the result is its length.

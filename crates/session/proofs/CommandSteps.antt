@@ -21,7 +21,7 @@ use Rattle.answers.specs.Returned.{open_error_of, open_number_of}
 use Rattle.answers.specs.declared.OpenError.TheVariants.{BadLog, Refused as RefusedError}
 use Rattle.answers.proofs.Returned.{number-positive}
 use Rattle.std.specs.declared.result.Result.TheVariants.{Ok, Err}
-use Rattle.coordinator.specs.Open.{opening, opened_of}
+use Rattle.coordinator.specs.Open.{blank_state, opening, opened_of}
 use Rattle.coordinator.specs.Flush.{flush, flush_tests}
 use Rattle.coordinator.specs.OpenedLog.{OpenedLog}
 use Rattle.numbers.proofs.Tests.{by_cases}
@@ -40,6 +40,7 @@ use Rattle.session.specs.Limits.{partitions, first_pid, last_pid, first_epoch}
 use Rattle.session.specs.Memory.{Memory, memory, opened, partition_at, share, words_at, with_words, server_at, with_server}
 use Rattle.session.specs.Commands.{Outcome, called, stays, and_then, delivers, payloads_of, carried, next_epoch, restarts, performed_on_log, performed, Performs}
 use Rattle.answers.specs.declared.OpenError.{OpenError}
+use Rattle.std.specs.Result.{result_unwrap_or}
 use Rattle.std.specs.declared.result.Result.{Result}
 use Rattle.session.specs.declared.Results.{Results}
 use Rattle.session.specs.declared.Session.{Session}
@@ -234,11 +235,12 @@ named-as does response session own name e p = rw e at p
 
 -- ---- the opening
 
-pub opened-as : (log words : List ℕ) {r : Result Coordinator OpenError} {blank c : Coordinator} {p : Partition} → opened_of r ≡ opening catalogue_text log 0 first_epoch first_pid last_pid
-    → blank ≡ blank_state → c ≡ unwrap_ok_or r blank → p ≡ open_partition (share words)
+pub opened-as : (log words : List ℕ) (r : Result Coordinator OpenError) {blank c : Coordinator} {p : Partition} → opened_of r ≡ opening catalogue_text log 0 first_epoch first_pid last_pid
+    → blank ≡ blank_state → c ≡ result_unwrap_or r blank → p ≡ open_partition (share words)
     → record { coordinator = c; partitions = p ∷ p ∷ p ∷ [] } ≡ opened log words
 unfolding opened
-opened-as log words {r} e h u q = ?
+opened-as log words (Ok state) e h u q = rw (u, q, ← e) refl
+opened-as log words (Err error) e h u q = rw (u, h, q, ← e) refl
 
 -- a Flush writes nothing
 pub flush-log : (s : Coordinator) (n : ℕ) (log : List ℕ) → log ≡ log_after (flush s n).action s log

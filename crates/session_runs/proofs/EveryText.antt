@@ -3,7 +3,7 @@ use Prim.Native.Nat.{ℕ, zero, suc, ◌^◌, ◌-◌}
 use mathlib.Core.Path.{◌≡◌, refl}
 use mathlib.Core.Bool.{Bool, true, false, cond}
 use mathlib.Core.List.{List, [], ◌∷◌, map}
-use mathlib.Core.Option.{Option, none, some}
+use Rattle.std.specs.Prelude.{Option, None, Some}
 use native.Mathlib.Omega.{arith}
 use lib.Dec.{eqb}
 use lib.IntN.{ℤ, pos, negsuc, neg_ℤ}
@@ -28,10 +28,10 @@ use Rattle.session_runs.proofs.EverySession.{every-session-runs}
 
 module _ (low high : ℤ) (f : ℤ → Command) (h : (z : ℤ) → in_range low high z ≡ true → command_typed (f z) ≡ true) where
   given-typed : (o : Option ℤ) → command_typed (given (within low high o) f) ≡ true
-  given-typed none = refl
-  given-typed (some z) = go (in_range low high z) refl
+  given-typed None = refl
+  given-typed (Some z) = go (in_range low high z) refl
     where
-      go : (b : Bool) → in_range low high z ≡ b → command_typed (given (cond b (some z) none) f) ≡ true
+      go : (b : Bool) → in_range low high z ≡ b → command_typed (given (cond b (Some z) None) f) ≡ true
       go true e = h z e
       go false e = refl
 

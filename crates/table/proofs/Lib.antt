@@ -1,7 +1,6 @@
 -- Laws of the crate table.
-mod Names
+pub mod Names
 pub mod Laws
-mod TableSteps
 pub mod Reserve
 pub mod Records
 pub mod Fits

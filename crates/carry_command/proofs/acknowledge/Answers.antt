@@ -1,9 +1,11 @@
 -- `carry_command::acknowledge` meets its contract.
-use mathlib.Core.Path.{ap, ◌∙◌}
+use mathlib.Core.Path.{refl, sym}
 use mathlib.Core.List.{[], ◌∷◌}
 use lib.IntN.{pos}
-use Rattle.answers.specs.Answers.{Reply, reply}
+use borrow.Author.Tests.{ne_eqb}
+use Rattle.answers.specs.Answers.{reply}
 use Rattle.answers.specs.Answer.{Answer}
+use Rattle.answers.proofs.Returned.{number-positive, error_passed}
 use Rattle.coordinator.specs.Ack.{ack as ack_decision}
 use mir.Facts.{to_z-of_z}
 use lib.ListN.{length}
@@ -12,11 +14,21 @@ use Rattle.session.specs.Memory.{index_of}
 use Rattle.session.proofs.CommandSteps.{coordinator-performs}
 use Rattle.carry_command.proofs.acknowledge.Goals as goal
 
+pub returns-in_err-ack : goal.returns-in_err-ack
+returns-in_err-ack c words payloads =
+    let a = c.args in
+    let o = a.order in
+    let results = pos o.place ∷ pos o.position ∷ pos o.verdict ∷ [] in
+    rw (error_passed _ _ c.from_residual.ensures)
+    (coordinator-performs a.s.now a.log.now words payloads (index_of o.position) (λ (x : Answer). answered (reply x).number results)
+    (ack_decision a.s.now.coordinator (length a.log.now) o.place o.pid o.epoch o.position)
+    c.in_err-ack.ensures (sym (rw (ne_eqb _ 0 (number-positive _)) refl)) refl)
+
 pub returns : goal.returns
 returns c words payloads =
     let a = c.args in
-    let results = pos a.place ∷ pos a.position ∷ pos a.verdict ∷ [] in
-    coordinator-performs a.s a.log.now words payloads (index_of a.position) (λ (x : Answer). answered (reply x).number results)
-    (ack_decision a.s.coordinator (length a.log.now) a.place a.pid a.epoch a.position)
-    (rw (to_z-of_z c.ranges.pid, to_z-of_z c.ranges.epoch) at c.ack-made.ensures)
-    (c.answering.ensures payloads ∙ ap (λ (x : Reply). answered x.number results) (c.done.ensures payloads)) c.with_coordinator.ensures
+    let o = a.order in
+    let results = pos o.place ∷ pos o.position ∷ pos o.verdict ∷ [] in
+    coordinator-performs a.s.now a.log.now words payloads (index_of o.position) (λ (x : Answer). answered (reply x).number results)
+    (ack_decision a.s.now.coordinator (length a.log.now) o.place o.pid o.epoch o.position)
+    c.in_ok-ack.ensures refl refl

@@ -1,34 +1,22 @@
 -- `listing::write_read` meets its contract.
+use mathlib.Core.Path.{◌≡◌, sym, ap, ◌∙◌}
+use mathlib.Core.Bool.{true}
 use native.Mathlib.Omega.{arith}
+use lib.Dec.{eqb}
+use lib.ListN.{length, take}
+use Prim.Native.Nat.{ℕ}
+use mathlib.Core.List.{List}
+use Rattle.std.proofs.lemmas.List.{take_min}
 use Rattle.text.proofs.Lines.{last-wrote}
 use Rattle.listing.specs.Listing.{none}
-use Rattle.listing.proofs.Payloads.{no_payload, no-payloads, some-payloads, all-payloads}
+use Rattle.listing.proofs.Payloads.{no-payloads}
 use Rattle.listing.proofs.write_read.Goals as goal
 
-pub returns-then-count-eq0 : goal.returns-then-count-eq0
-returns-then-count-eq0 c =
-    let a = c.args in (
-      rw (no_payload a.payloads.now a.count c.if-count-eq0.true) (last-wrote none a.out.now a.at c.write_field.ensures),
-      omega (arith, c.write_field.ensures.0),
-    )
-
-pub returns-then-payloads-eq0 : goal.returns-then-payloads-eq0
-returns-then-payloads-eq0 c =
-    let a = c.args in (
-      rw (no-payloads a.payloads.now a.count c.if-payloads-eq0.true) (last-wrote none a.out.now a.at c.write_field-then-payloads-eq0.ensures),
-      omega (arith, c.write_field-then-payloads-eq0.ensures.0),
-    )
-
-pub returns-then-payloads-count : goal.returns-then-payloads-count
-returns-then-payloads-count c =
+pub returns-then-is_empty : goal.returns-then-is_empty
+returns-then-is_empty c =
     let a = c.args in
-    let v = c.write_payloads.ensures in (
-      rw (some-payloads a.payloads.now a.count c.if-count-eq0.false c.if-payloads-eq0.false, ← all-payloads a.payloads.now a.count c.if-payloads-count.true) v.0,
-      omega (arith, v.1),
-    )
-
-pub returns : goal.returns
-returns c =
-    let a = c.args in
-    let v = c.write_payloads-2.ensures in
-    (rw (some-payloads a.payloads.now a.count c.if-count-eq0.false c.if-payloads-eq0.false) v.0, omega (arith, v.1, c.if-payloads-count.false))
+    let p = a.payloads.now in
+    let e : eqb (length (take c.min.result p)) 0 ≡ true = sym c.is_empty.ensures ∙ c.if-is_empty.true in
+    let t : take c.min.result p ≡ take a.count p = ap (λ (k : ℕ). take k p) c.min.ensures ∙ take_min a.count p in
+    let n = no-payloads (take a.count p) (ap (λ (l : List ℕ). eqb (length l) 0) (sym t) ∙ e) in
+    (rw n (last-wrote none a.out.now a.at c.write_field.ensures), omega (arith, c.write_field.ensures.0))

@@ -20,20 +20,20 @@ returns-in-Absent c =
 
 pub returns-in-One : goal.returns-in-One
 returns-in-One c =
-    let v = c.write_one.ensures in
+    let v = c.write_signed.ensures in
     let f : SFits w64 c.in-One.a = search rules in
     (rw c.in-One.is (rw (to_z-of_z f) at v.0), omega (arith, v.1))
 
 pub returns-in-Two : goal.returns-in-Two
 returns-in-Two c =
-    let v = c.write_two.ensures in
+    let v = c.write_signed-in-Two.ensures in
     let f : SFits w64 c.in-Two.a = search rules in
     let g : SFits w64 c.in-Two.b = search rules in
     (rw c.in-Two.is (rw (to_z-of_z f, to_z-of_z g) at v.0), omega (arith, v.1))
 
 pub returns-in-Three : goal.returns-in-Three
 returns-in-Three c =
-    let v = c.write_three.ensures in
+    let v = c.write_signed-in-Three.ensures in
     let f : SFits w64 c.in-Three.first = search rules in
     let g : SFits w64 c.in-Three.second = search rules in
     let h : SFits w64 c.in-Three.third = search rules in
