@@ -68,7 +68,7 @@ fn line_at(text: &[u8]) -> Option<Line>
         return None;
     }
     Some(Line {
-        name,
+        name: name,
         partitions: u64::from(*digit - b'0'),
     })
 }
@@ -92,7 +92,7 @@ fn with_topic(c: Catalogue, t: usize, name: &[u8], partitions: u64) -> Catalogue
     numbers::copy(&mut names, TOPIC_NAME_MAX * t, name);
     let set = (1u64 << partitions) - 1;
     Catalogue {
-        names,
+        names: names,
         all: c.all + (set << (PARTITIONS_MAX * t)),
     }
 }

@@ -20,7 +20,7 @@ fn begun(name: &[u8], joined: u64) -> Record {
         epoch: 0,
         timeout: 60000,
         status: Status::Begin,
-        joined,
+        joined: joined,
         updated: 110,
         start: 110,
     }
@@ -34,8 +34,8 @@ fn extreme(name: &[u8], status: Status, joined: u64, least: bool) -> Record {
             pid: 0,
             epoch: -32768,
             timeout: 1,
-            status,
-            joined,
+            status: status,
+            joined: joined,
             updated: 0,
             start: -9223372036854775808,
         };
@@ -45,8 +45,8 @@ fn extreme(name: &[u8], status: Status, joined: u64, least: bool) -> Record {
         pid: 9223372036854775807,
         epoch: 32767,
         timeout: 900000,
-        status,
-        joined,
+        status: status,
+        joined: joined,
         updated: 9223372036854775807,
         start: 9223372036854775807,
     }
