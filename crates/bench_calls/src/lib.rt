@@ -1,6 +1,7 @@
 // What the benchmark of bench/ calls: functions for a program in Rust, on numbers and slices, that make the calls of document 01 many times.
 #![tactic(auto)]
 
+use bench_notes::WIDTH;
 use record::{Record, Status};
 
 // Makes the calls of a script and notes their answers.
@@ -15,8 +16,7 @@ pub extern "C" fn bench_calls_run(
     notes: &mut [u64],
 ) -> u64 {
     let server = bench_script::run(text, names, script, log, words, out, notes);
-    let p = server.partition;
-    committed_reader::stable_end(p) as u64
+    committed_reader::stable_end(&server.partition) as u64
 }
 
 // Makes the calls of a script, and then rounds of so many times a call, each from the state after the script on.
@@ -34,21 +34,23 @@ pub extern "C" fn bench_calls_repeat(
     let mut out = [0u64; 1];
     let mut notes = [0u64; 1];
     let server = bench_script::run(text, names, script, log, words, &mut out, &mut notes);
-    let one = bench_notes::call_at(call, 0);
-    bench_repeat::repeat(server, one, count, rounds, names, log, words)
+    let one = call
+        .first_chunk::<WIDTH>()
+        .and_then(|numbers| bench_notes::call_of(*numbers));
+    match one {
+        Some(call) => bench_repeat::repeat(&server, call, count, rounds, names, log, words),
+        None => 0,
+    }
 }
 
 // Opens a log so many times.
 #[unsafe(no_mangle)]
 pub extern "C" fn bench_calls_open(text: &[u8], log: &[u8], length: usize, rounds: usize) -> u64 {
     let mut sum: u64 = 0;
-    let mut k: usize = 0;
-    while k < rounds {
-        let made = calls::opening(text, log, length, 1, 0, 1000);
-        let state = made.state;
-        sum = std::num::wrapping_add_u64(sum, state.clock);
-        sum = std::num::wrapping_add_u64(sum, state.table.end as u64);
-        k += 1;
+    for _ in 0..rounds {
+        if let Ok(state) = calls::opening(text, log, length, 1, 0, 1000) {
+            sum = sum.wrapping_add(state.clock).wrapping_add(state.table.end as u64);
+        }
     }
     sum
 }
@@ -65,8 +67,7 @@ pub extern "C" fn bench_calls_encode(
     let c = catalogue::parse(text).unwrap_or(catalogue::blank());
     let own = record::padded_name(name);
     let mut sum: u64 = 0;
-    let mut k: usize = 0;
-    while k < rounds {
+    for k in 0..rounds {
         let r = Record {
             name: own,
             pid: 1000,
@@ -78,9 +79,8 @@ pub extern "C" fn bench_calls_encode(
             start: 100,
         };
         if let Some(end) = encode::encode(c, r, out, 0) {
-            sum = std::num::wrapping_add_u64(sum, end as u64);
+            sum = sum.wrapping_add(end as u64);
         }
-        k += 1;
     }
     sum
 }
@@ -95,14 +95,7 @@ pub extern "C" fn bench_calls_read(
 ) -> u64 {
     let mut p = calls::open_partition(words.len());
     p.end = entries;
-    let mut sum: u64 = 0;
-    let mut k: usize = 0;
-    while k < rounds {
-        let outcome = bench_answers::copied(calls::read(p, words, 0, out));
-        sum = std::num::wrapping_add_u64(sum, outcome.number);
-        sum = std::num::wrapping_add_u64(sum, outcome.results[0]);
-        sum = std::num::wrapping_add_u64(sum, outcome.results[1]);
-        k += 1;
-    }
-    sum
+    bench_sums::sum_of(rounds, |_| {
+        bench_answers::answered(calls::read(&p, words, 0, out))
+    })
 }

@@ -1,55 +1,71 @@
 // The calls of document 01 with their arguments as numbers, each made on a coordinator and one partition.
 #![tactic(auto)]
 
-use bench_answers::Outcome;
+use bench_answers::{Outcome, accepted, answered};
 use coordinator::Coordinator;
+use numbers::Integer;
 use partition::Partition;
+use std::ops::Not;
 
 // The sign of a number of 64 bits.
 const SIGN: u64 = 1u64 << 63;
 
-// The kinds of calls, by the numbers of a script. `HELD` shows what is held at a place; `UNKNOWN` is the kind of no call, and the number of the answer to one.
-pub const OPEN: u64 = 0;
+// The kinds of calls, in the order of their numbers in a script. `Held` shows what is held at a place.
+#[derive(Clone, Copy, Debug, PartialEq, Eq)]
+pub enum Kind {
+    Open,
+    OpenPartition,
+    Init,
+    Add,
+    End,
+    Tick,
+    Flush,
+    Order,
+    Ack,
+    Produce,
+    Marker,
+    Read,
+    Held,
+}
 
-pub const OPEN_PARTITION: u64 = 1;
+const KINDS: [Kind; 13] = [
+    Kind::Open,
+    Kind::OpenPartition,
+    Kind::Init,
+    Kind::Add,
+    Kind::End,
+    Kind::Tick,
+    Kind::Flush,
+    Kind::Order,
+    Kind::Ack,
+    Kind::Produce,
+    Kind::Marker,
+    Kind::Read,
+    Kind::Held,
+];
 
-pub const INIT: u64 = 2;
-
-pub const ADD: u64 = 3;
-
-pub const END: u64 = 4;
-
-pub const TICK: u64 = 5;
-
-pub const FLUSH: u64 = 6;
-
-pub const ORDER: u64 = 7;
-
-pub const ACK: u64 = 8;
-
-pub const PRODUCE: u64 = 9;
-
-pub const MARKER: u64 = 10;
-
-pub const READ: u64 = 11;
-
-pub const HELD: u64 = 12;
-
-pub const UNKNOWN: u64 = 99;
+// The kind of a number, if it is that of one.
+pub fn kind_of(number: u64) -> Option<Kind> {
+    KINDS.get(number as usize).copied()
+}
 
 // A call: its kind, the bytes of the log and the words that it is lent, the part of the names that is its name, and its arguments in document 01's order.
 #[derive(Clone, Copy)]
 pub struct Call {
-    pub kind: u64,
+    pub kind: Kind,
     pub bytes: usize,
     pub words: usize,
     pub from: usize,
     pub to: usize,
-    pub first: u64,
-    pub second: u64,
-    pub third: u64,
-    pub fourth: u64,
-    pub fifth: u64,
+    pub arguments: [u64; 5],
+}
+
+// A number of a script, which is two's complement, as a signed one of a width; where it does not fit, the nearest.
+pub fn signed<T: Integer + Not<Output = T>>(x: u64) -> T {
+    if x < SIGN {
+        return numbers::to_signed::<T>(x);
+    }
+    !numbers::to_signed::<T>(!x)
 }
 
 // A coordinator and one partition.
@@ -59,206 +75,115 @@ pub struct Server {
     pub partition: Partition,
 }
 
-// A call that was made: the state after it, and its answer.
-#[derive(Clone, Copy)]
-pub struct Performed {
-    pub server: Server,
-    pub outcome: Outcome,
-}
-
-// ---- The numbers of a script, which are two's complement.
-
-pub fn signed_16(x: u64) -> i16 {
-    if x < SIGN {
-        return numbers::to_signed::<i16>(x);
+impl Server {
+    // An opening of a log; a refused one leaves the coordinator as it was.
+    pub fn open(&mut self, call: Call, text: &[u8], log: &[u8]) -> Outcome {
+        let [length, epoch, first, last, _] = call.arguments;
+        let opened = calls::opening(
+            text,
+            log,
+            length as usize,
+            signed(epoch),
+            signed(first),
+            signed(last),
+        );
+        match opened {
+            Ok(state) => {
+                self.coordinator = state;
+                accepted(())
+            }
+            Err(error) => bench_answers::not_opened(error),
+        }
     }
-    !numbers::to_signed::<i16>(!x)
-}
 
-pub fn signed_32(x: u64) -> i32 {
-    if x < SIGN {
-        return numbers::to_signed::<i32>(x);
+    pub fn open_partition(&mut self, words: &[u64]) -> Outcome {
+        self.partition = calls::open_partition(words.len());
+        accepted(())
     }
-    !numbers::to_signed::<i32>(!x)
-}
 
-pub fn signed_64(x: u64) -> i64 {
-    if x < SIGN {
-        return numbers::to_signed::<i64>(x);
+    pub fn init(&mut self, call: Call, log: &mut [u8], name: &[u8]) -> Outcome {
+        let [timeout, time, _, _, _] = call.arguments;
+        let s = &mut self.coordinator;
+        answered(calls::init(s, log, name, signed(timeout), signed(time)))
     }
-    !numbers::to_signed::<i64>(!x)
-}
 
-// ---- The calls.
-
-fn with_coordinator(s: Server, c: Coordinator, outcome: Outcome) -> Performed {
-    let mut server = s;
-    server.coordinator = c;
-    Performed { server, outcome }
-}
-
-pub fn with_partition(s: Server, p: Partition, outcome: Outcome) -> Performed {
-    let mut server = s;
-    server.partition = p;
-    Performed { server, outcome }
-}
-
-// The state of an accepted opening, or else the one before it.
-pub fn open(s: Server, call: Call, text: &[u8], log: &[u8]) -> Performed {
-    let opened_log = calls::opening(
-        text,
-        log,
-        call.first as usize,
-        signed_32(call.second),
-        signed_64(call.third),
-        signed_64(call.fourth),
-    );
-    let answer = opened_log.answer;
-    let outcome = bench_answers::opened(answer);
-    if outcome.number != 0 {
-        return Performed { server: s, outcome };
+    pub fn add(&mut self, call: Call, log: &mut [u8], name: &[u8]) -> Outcome {
+        let [pid, epoch, set, time, _] = call.arguments;
+        let s = &mut self.coordinator;
+        answered(calls::add(s, log, name, signed(pid), signed(epoch), set, signed(time)))
     }
-    let state = opened_log.state;
-    with_coordinator(s, state, outcome)
-}
 
-pub fn init(s: Server, call: Call, log: &mut [u8], name: &[u8]) -> Performed {
-    let c = s.coordinator;
-    let made = calls::init(c, log, name, signed_32(call.first), signed_64(call.second));
-    let answer = made.answer;
-    let state = made.state;
-    with_coordinator(s, state, bench_answers::initialized(answer))
-}
-
-pub fn add(s: Server, call: Call, log: &mut [u8], name: &[u8]) -> Performed {
-    let c = s.coordinator;
-    let made = calls::add(
-        c,
-        log,
-        name,
-        signed_64(call.first),
-        signed_16(call.second),
-        call.third,
-        signed_64(call.fourth),
-    );
-    let answer = made.answer;
-    let state = made.state;
-    with_coordinator(s, state, bench_answers::done(answer))
-}
-
-pub fn end(s: Server, call: Call, log: &mut [u8], name: &[u8]) -> Performed {
-    let c = s.coordinator;
-    let made = calls::end(
-        c,
-        log,
-        name,
-        signed_64(call.first),
-        signed_16(call.second),
-        call.third,
-        signed_64(call.fourth),
-    );
-    let answer = made.answer;
-    let state = made.state;
-    with_coordinator(s, state, bench_answers::done(answer))
-}
-
-pub fn tick(s: Server, call: Call, log: &mut [u8]) -> Performed {
-    let c = s.coordinator;
-    let made = calls::tick(c, log, signed_64(call.first));
-    let answer = made.answer;
-    let state = made.state;
-    with_coordinator(s, state, bench_answers::ticked(answer))
-}
-
-pub fn flush(s: Server, call: Call) -> Performed {
-    let c = s.coordinator;
-    let made = calls::flush(c, call.first as usize);
-    let answer = made.answer;
-    let state = made.state;
-    with_coordinator(s, state, bench_answers::done(answer))
-}
-
-pub fn order(s: Server, call: Call) -> Performed {
-    let c = s.coordinator;
-    let answer = calls::order(c, call.first);
-    Performed {
-        server: s,
-        outcome: bench_answers::ordered(answer),
+    pub fn end(&mut self, call: Call, log: &mut [u8], name: &[u8]) -> Outcome {
+        let [pid, epoch, verdict, time, _] = call.arguments;
+        let s = &mut self.coordinator;
+        answered(calls::end(s, log, name, signed(pid), signed(epoch), verdict, signed(time)))
     }
-}
 
-pub fn ack(s: Server, call: Call, log: &mut [u8]) -> Performed {
-    let c = s.coordinator;
-    let made = calls::ack(
-        c,
-        log,
-        call.first as usize,
-        signed_64(call.second),
-        signed_16(call.third),
-        call.fourth as usize,
-    );
-    let answer = made.answer;
-    let state = made.state;
-    with_coordinator(s, state, bench_answers::done(answer))
-}
-
-pub fn produce(s: Server, call: Call, words: &mut [u64], name: &[u8]) -> Performed {
-    let c = s.coordinator;
-    let p = s.partition;
-    let made = calls::produce(
-        c,
-        p,
-        words,
-        name,
-        signed_64(call.first),
-        signed_16(call.second),
-        call.third as usize,
-        signed_32(call.fourth),
-        call.fifth,
-    );
-    let answer = made.answer;
-    let state = made.state;
-    with_partition(s, state, bench_answers::produced(answer))
-}
-
-pub fn marker(s: Server, call: Call, words: &mut [u64]) -> Performed {
-    let p = s.partition;
-    let made = calls::marker(
-        p,
-        words,
-        call.first as usize,
-        signed_64(call.second),
-        signed_16(call.third),
-        call.fourth,
-        signed_32(call.fifth),
-    );
-    let answer = made.answer;
-    let state = made.state;
-    with_partition(s, state, bench_answers::done(answer))
-}
-
-// Read into the part of out that the call says.
-pub fn read(s: Server, call: Call, words: &[u64], out: &mut [u64]) -> Performed {
-    let p = s.partition;
-    let from = call.second as usize;
-    let to = call.third as usize;
-    if to < from {
-        return unknown(s);
+    pub fn tick(&mut self, call: Call, log: &mut [u8]) -> Outcome {
+        let [time, _, _, _, _] = call.arguments;
+        answered(calls::tick(&mut self.coordinator, log, signed(time)))
     }
-    if out.len() < to {
-        return unknown(s);
-    }
-    let answer = calls::read(p, words, call.first as usize, &mut out[from..to]);
-    Performed {
-        server: s,
-        outcome: bench_answers::copied(answer),
-    }
-}
 
-// A call that cannot be made.
-pub fn unknown(s: Server) -> Performed {
-    Performed {
-        server: s,
-        outcome: bench_answers::outcome_of(UNKNOWN, 0, 0),
+    pub fn flush(&mut self, call: Call) -> Outcome {
+        let [length, _, _, _, _] = call.arguments;
+        answered(calls::flush(&mut self.coordinator, length as usize))
+    }
+
+    pub fn order(&self, call: Call) -> Outcome {
+        let [up, _, _, _, _] = call.arguments;
+        accepted(calls::order(&self.coordinator, up))
+    }
+
+    pub fn ack(&mut self, call: Call, log: &mut [u8]) -> Outcome {
+        let [place, pid, epoch, position, _] = call.arguments;
+        answered(calls::ack(
+            &mut self.coordinator,
+            log,
+            place as usize,
+            signed(pid),
+            signed(epoch),
+            position as usize,
+        ))
+    }
+
+    pub fn produce(&mut self, call: Call, words: &mut [u64], name: &[u8]) -> Outcome {
+        let [pid, epoch, position, sequence, payload] = call.arguments;
+        answered(calls::produce(
+            &self.coordinator,
+            &mut self.partition,
+            words,
+            name,
+            signed(pid),
+            signed(epoch),
+            position as usize,
+            signed(sequence),
+            payload,
+        ))
+    }
+
+    pub fn marker(&mut self, call: Call, words: &mut [u64]) -> Outcome {
+        let [place, pid, epoch, verdict, leader] = call.arguments;
+        answered(calls::marker(
+            &mut self.partition,
+            words,
+            place as usize,
+            signed(pid),
+            signed(epoch),
+            verdict,
+            signed(leader),
+        ))
+    }
+
+    // Read into the part of out that the call says, if there is one.
+    pub fn read(&self, call: Call, words: &[u64], out: &mut [u64]) -> Option<Outcome> {
+        let [offset, from, to, _, _] = call.arguments;
+        let part = out.get_mut(from as usize..to as usize)?;
+        Some(answered(calls::read(&self.partition, words, offset as usize, part)))
+    }
+
+    // What is held at a place.
+    pub fn held(&self, call: Call) -> Outcome {
+        let [place, _, _, _, _] = call.arguments;
+        bench_answers::held(table::row_at(&self.coordinator.table, place as usize))
     }
 }

@@ -3,7 +3,7 @@
 
 mod stores;
 
-use answers::{Answer, InitAnswer, OpenAnswer, OrderAnswer, ProduceAnswer, ReadAnswer, TickAnswer};
+use answers::{Copied, Initialized, OpenError, Order, Refusal};
 use coordinator::Coordinator;
 use partition::Partition;
 use std::io;
@@ -41,16 +41,6 @@ fn signed(rt: &impl Print, x: i64) -> io::Result<()> {
     print!(rt; "\t{x}")
 }
 
-// The number of what was accepted, without results.
-fn none(rt: &impl Print) -> io::Result<()> {
-    natural(rt, 0)?;
-    bytes(rt, b"\t-")
-}
-
-fn refused(rt: &impl Print, number: u8) -> io::Result<()> {
-    natural(rt, number as u64)
-}
-
 // Bytes in hexadecimal, behind one tab.
 pub fn hexadecimal(rt: &impl Print, run: &[u8]) -> io::Result<()> {
     bytes(rt, b"\t")?;
@@ -70,104 +60,104 @@ pub fn words(rt: &impl Print, run: &[u64]) -> io::Result<()> {
 
 // ---- Answers.
 
+// The results of a call.
+pub trait Results: Copy {
+    fn show(self, rt: &impl Print) -> io::Result<()>;
+}
+
 // Add, End, Flush, Ack and Marker.
-pub fn done(rt: &impl Print, answer: Answer) -> io::Result<()> {
-    match answer {
-        Answer::Done => natural(rt, 0),
-        Answer::Refused(number) => refused(rt, number),
+impl Results for () {
+    fn show(self, _rt: &impl Print) -> io::Result<()> {
+        Ok(())
     }
 }
 
-pub fn opened(rt: &impl Print, answer: OpenAnswer) -> io::Result<()> {
-    match answer {
-        OpenAnswer::Opened => natural(rt, 0),
-        OpenAnswer::BadLog(at) => {
-            refused(rt, answers::INVALID_LOG)?;
-            natural(rt, at as u64)
-        }
-        OpenAnswer::Refused(number) => refused(rt, number),
+// A place or an offset.
+impl Results for usize {
+    fn show(self, rt: &impl Print) -> io::Result<()> {
+        natural(rt, self as u64)
     }
 }
 
-pub fn initialized(rt: &impl Print, answer: InitAnswer) -> io::Result<()> {
-    match answer {
-        InitAnswer::Given(pid, epoch) => {
-            natural(rt, 0)?;
-            signed(rt, pid)?;
-            signed(rt, i64::from(epoch))
+impl Results for Initialized {
+    fn show(self, rt: &impl Print) -> io::Result<()> {
+        match self {
+            Initialized::Given { pid, epoch } => {
+                signed(rt, pid)?;
+                signed(rt, i64::from(epoch))
+            }
+            Initialized::Aborting => absent(rt),
         }
-        InitAnswer::Aborting => none(rt),
-        InitAnswer::Refused(number) => refused(rt, number),
     }
 }
 
-pub fn ticked(rt: &impl Print, answer: TickAnswer) -> io::Result<()> {
-    match answer {
-        TickAnswer::Aborted(place) => {
-            natural(rt, 0)?;
-            natural(rt, place as u64)
-        }
-        TickAnswer::NoneDue => none(rt),
-        TickAnswer::Refused(number) => refused(rt, number),
+impl Results for Order {
+    fn show(self, rt: &impl Print) -> io::Result<()> {
+        natural(rt, self.place as u64)?;
+        signed(rt, self.pid)?;
+        signed(rt, i64::from(self.epoch))?;
+        natural(rt, self.verdict)?;
+        natural(rt, self.position as u64)?;
+        signed(rt, i64::from(self.coordinator))
     }
 }
 
-pub fn ordered(rt: &impl Print, answer: OrderAnswer) -> io::Result<()> {
-    match answer {
-        OrderAnswer::Order {
-            place,
-            pid,
-            epoch,
-            verdict,
-            position,
-            coordinator,
-        } => {
-            natural(rt, 0)?;
-            natural(rt, place as u64)?;
-            signed(rt, pid)?;
-            signed(rt, i64::from(epoch))?;
-            natural(rt, verdict)?;
-            natural(rt, position as u64)?;
-            signed(rt, i64::from(coordinator))
-        }
-        OrderAnswer::NoOrder => none(rt),
+impl Results for Copied {
+    fn show(self, rt: &impl Print) -> io::Result<()> {
+        natural(rt, self.count as u64)?;
+        natural(rt, self.next as u64)
     }
 }
 
-pub fn produced(rt: &impl Print, answer: ProduceAnswer) -> io::Result<()> {
-    match answer {
-        ProduceAnswer::Written(offset) => {
-            natural(rt, 0)?;
-            natural(rt, offset as u64)
+impl<T: Results> Results for Option<T> {
+    fn show(self, rt: &impl Print) -> io::Result<()> {
+        match self {
+            Some(results) => results.show(rt),
+            None => absent(rt),
         }
-        ProduceAnswer::Refused(number) => refused(rt, number),
     }
 }
 
-pub fn copied(rt: &impl Print, answer: ReadAnswer) -> io::Result<()> {
+// What stands where an accepted call has no results but may have some.
+fn absent(rt: &impl Print) -> io::Result<()> {
+    bytes(rt, b"\t-")
+}
+
+// An accepted call: 0 and its results.
+pub fn accepted(rt: &impl Print, results: impl Results) -> io::Result<()> {
+    natural(rt, 0)?;
+    results.show(rt)
+}
+
+// The answer of a call: 0 and its results, or the number of its refusal.
+pub fn answered<T: Results>(rt: &impl Print, answer: Result<T, Refusal>) -> io::Result<()> {
     match answer {
-        ReadAnswer::Copied(count, next) => {
-            natural(rt, 0)?;
-            natural(rt, count as u64)?;
-            natural(rt, next as u64)
-        }
-        ReadAnswer::Refused(number) => refused(rt, number),
+        Ok(results) => accepted(rt, results),
+        Err(refusal) => natural(rt, u64::from(u8::from(refusal))),
+    }
+}
+
+// Why an opening is refused: its number, and behind that of a bad log the offset of its bad frame.
+pub fn not_opened(rt: &impl Print, error: OpenError) -> io::Result<()> {
+    natural(rt, u64::from(u8::from(error)))?;
+    match error {
+        OpenError::BadLog { offset } => natural(rt, offset as u64),
+        OpenError::Refused(_) => Ok(()),
     }
 }
 
 // ---- States.
 
 // The log's end, the flushed length and the clock.
-pub fn coordinator(rt: &impl Print, c: Coordinator) -> io::Result<()> {
-    let table = c.table;
-    natural(rt, table.end as u64)?;
+pub fn coordinator(rt: &impl Print, c: &Coordinator) -> io::Result<()> {
+    natural(rt, c.table.end as u64)?;
     natural(rt, c.flushed as u64)?;
     natural(rt, c.clock)?;
     end_line(rt)
 }
 
 // The end, the coordinator epoch and the stable end.
-pub fn partition(rt: &impl Print, p: Partition) -> io::Result<()> {
+pub fn partition(rt: &impl Print, p: &Partition) -> io::Result<()> {
     natural(rt, p.end as u64)?;
     natural(rt, p.coordinator as u64)?;
     natural(rt, committed_reader::stable_end(p) as u64)

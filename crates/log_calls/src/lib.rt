@@ -1,7 +1,7 @@
 // The lines with a call of the coordinator. Each is lent the bytes that its line says, and answers the coordinator's state after it.
 #![tactic(auto)]
 
-use answers::OpenAnswer;
+use call_answers::{accepted, answered};
 use call_lines::{Kind, field, number};
 use coordinator::Coordinator;
 use std::io;
@@ -14,7 +14,7 @@ fn open(
     text: &[u8],
     log: &[u8],
 ) -> io::Result<()> {
-    let made = calls::opening(
+    let opened = calls::opening(
         text,
         log,
         number(line, 2),
@@ -22,23 +22,25 @@ fn open(
         number(line, 4),
         number(line, 5),
     );
-    if let OpenAnswer::Opened = made.answer {
-        *c = made.state;
+    match opened {
+        Ok(state) => {
+            *c = state;
+            accepted(rt, ())
+        }
+        Err(error) => call_answers::not_opened(rt, error),
     }
-    call_answers::opened(rt, made.answer)
 }
 
 // `init LENT NAME TIMEOUT TIME`
 fn init(rt: &impl Print, c: &mut Coordinator, line: &[u8], log: &mut [u8]) -> io::Result<()> {
-    let made = calls::init(*c, log, field(line, 2), number(line, 3), number(line, 4));
-    *c = made.state;
-    call_answers::initialized(rt, made.answer)
+    let name = field(line, 2);
+    answered(rt, calls::init(c, log, name, number(line, 3), number(line, 4)))
 }
 
 // `add LENT NAME PID EPOCH SET TIME`
 fn add(rt: &impl Print, c: &mut Coordinator, line: &[u8], log: &mut [u8]) -> io::Result<()> {
-    let made = calls::add(
-        *c,
+    let answer = calls::add(
+        c,
         log,
         field(line, 2),
         number(line, 3),
@@ -46,14 +48,13 @@ fn add(rt: &impl Print, c: &mut Coordinator, line: &[u8], log: &mut [u8]) -> io:
         number(line, 5),
         number(line, 6),
     );
-    *c = made.state;
-    call_answers::done(rt, made.answer)
+    answered(rt, answer)
 }
 
 // `end LENT NAME PID EPOCH VERDICT TIME`
 fn end(rt: &impl Print, c: &mut Coordinator, line: &[u8], log: &mut [u8]) -> io::Result<()> {
-    let made = calls::end(
-        *c,
+    let answer = calls::end(
+        c,
         log,
         field(line, 2),
         number(line, 3),
@@ -61,44 +62,23 @@ fn end(rt: &impl Print, c: &mut Coordinator, line: &[u8], log: &mut [u8]) -> io:
         number(line, 5),
         number(line, 6),
     );
-    *c = made.state;
-    call_answers::done(rt, made.answer)
-}
-
-// `tick LENT TIME`
-fn tick(rt: &impl Print, c: &mut Coordinator, line: &[u8], log: &mut [u8]) -> io::Result<()> {
-    let made = calls::tick(*c, log, number(line, 2));
-    *c = made.state;
-    call_answers::ticked(rt, made.answer)
+    answered(rt, answer)
 }
 
 // `ack LENT PLACE PID EPOCH POSITION`
 fn ack(rt: &impl Print, c: &mut Coordinator, line: &[u8], log: &mut [u8]) -> io::Result<()> {
-    let made = calls::ack(
-        *c,
+    let answer = calls::ack(
+        c,
         log,
         number(line, 2),
         number(line, 3),
         number(line, 4),
         number(line, 5),
     );
-    *c = made.state;
-    call_answers::done(rt, made.answer)
+    answered(rt, answer)
 }
 
-// `flush LENGTH`
-fn flush(rt: &impl Print, c: &mut Coordinator, line: &[u8]) -> io::Result<()> {
-    let made = calls::flush(*c, number(line, 1));
-    *c = made.state;
-    call_answers::done(rt, made.answer)
-}
-
-// `order SET`
-fn order(rt: &impl Print, c: &Coordinator, line: &[u8]) -> io::Result<()> {
-    call_answers::ordered(rt, calls::order(*c, number(line, 1)))
-}
-
-// A line that is lent these bytes of the log.
+// A line that is lent these bytes of the log. `tick LENT TIME`, `flush LENGTH` and `order SET` stand here as they are.
 fn lent(
     rt: &impl Print,
     c: &mut Coordinator,
@@ -113,10 +93,10 @@ fn lent(
         Kind::Init => init(rt, c, line, log),
         Kind::Add => add(rt, c, line, log),
         Kind::End => end(rt, c, line, log),
-        Kind::Tick => tick(rt, c, line, log),
+        Kind::Tick => answered(rt, calls::tick(c, log, number(line, 2))),
         Kind::Ack => ack(rt, c, line, log),
-        Kind::Flush => flush(rt, c, line),
-        Kind::Order => order(rt, c, line),
+        Kind::Flush => answered(rt, calls::flush(c, number(line, 1))),
+        Kind::Order => accepted(rt, calls::order(c, number(line, 1))),
         _ => Ok(()),
     }
 }
@@ -143,5 +123,5 @@ pub fn perform(
     };
     call_answers::word(rt, line)?;
     lent(rt, c, kind, line, text, log)?;
-    call_answers::coordinator(rt, *c)
+    call_answers::coordinator(rt, c)
 }

@@ -50,7 +50,8 @@ impl State {
         };
         State {
             text: ArrayVec::try_from(&first[..]).unwrap_or_default(),
-            coordinator: calls::opening(first, &log, 0, 1, 1000, 1999).state,
+            coordinator: calls::opening(first, &log, 0, 1, 1000, 1999)
+                .unwrap_or(opening::blank_state()),
             log,
             partitions: [empty; PARTITIONS],
         }
@@ -65,14 +66,9 @@ impl State {
     // `sequence INDEX PLACE SEQUENCE`: another last sequence for the producer at a place of a partition.
     fn set_sequence(&mut self, rt: &impl Print, line: &[u8]) -> io::Result<()> {
         let index: usize = number(line, 1);
-        let set = match self.partitions.get_mut(index) {
-            Some(held) => script_values::set_sequence(
-                &mut held.partition,
-                number(line, 2),
-                number(line, 3),
-            ),
-            None => None,
-        };
+        let set = self.partitions.get_mut(index).and_then(|held| {
+            script_values::set_sequence(&mut held.partition, number(line, 2), number(line, 3))
+        });
         call_answers::obeyed(rt, line, set)
     }
 

@@ -19,9 +19,9 @@ fn produce(
     line: &[u8],
     words: &mut [u64],
 ) -> io::Result<()> {
-    let made = calls::produce(
-        *c,
-        *p,
+    let answer = calls::produce(
+        c,
+        p,
         words,
         field(line, 3),
         number(line, 4),
@@ -30,14 +30,13 @@ fn produce(
         number(line, 7),
         number(line, 8),
     );
-    *p = made.state;
-    call_answers::produced(rt, made.answer)
+    call_answers::answered(rt, answer)
 }
 
 // `marker INDEX LENT PLACE PID EPOCH VERDICT COORDINATOR`
 fn marker(rt: &impl Print, p: &mut Partition, line: &[u8], words: &mut [u64]) -> io::Result<()> {
-    let made = calls::marker(
-        *p,
+    let answer = calls::marker(
+        p,
         words,
         number(line, 3),
         number(line, 4),
@@ -45,14 +44,13 @@ fn marker(rt: &impl Print, p: &mut Partition, line: &[u8], words: &mut [u64]) ->
         number(line, 6),
         number(line, 7),
     );
-    *p = made.state;
-    call_answers::done(rt, made.answer)
+    call_answers::answered(rt, answer)
 }
 
 // `partition INDEX LENT`
 fn open(rt: &impl Print, p: &mut Partition, words: &[u64]) -> io::Result<()> {
     *p = calls::open_partition(words.len());
-    call_answers::natural(rt, 0)
+    call_answers::accepted(rt, ())
 }
 
 // Performs a line with a call that changes the partition, on these of its words, and writes its answer.
@@ -71,7 +69,7 @@ pub fn perform(
         Kind::Marker => marker(rt, p, line, words),
         _ => open(rt, p, words),
     }?;
-    call_answers::partition(rt, *p)?;
+    call_answers::partition(rt, p)?;
     call_answers::end_line(rt)
 }
 
@@ -82,8 +80,8 @@ pub fn read(rt: &impl Print, p: &Partition, line: &[u8], words: &[u64]) -> io::R
         return call_answers::unknown(rt);
     };
     call_answers::word(rt, line)?;
-    call_answers::copied(rt, calls::read(*p, words, number(line, 3), out))?;
-    call_answers::partition(rt, *p)?;
+    call_answers::answered(rt, calls::read(p, words, number(line, 3), out))?;
+    call_answers::partition(rt, p)?;
     call_answers::words(rt, out)?;
     call_answers::end_line(rt)
 }
