@@ -28,9 +28,10 @@ fn put(
     let index = session::index_of(position);
     let start = session::words_start(words.len(), index);
     let past = start + words.len() / session::PARTITIONS;
+    let partition = &mut s.partitions[index];
     let offset = server::produce(
         &s.coordinator,
-        &mut s.partitions[index],
+        partition,
         &mut words[start..past],
         name,
         pid,

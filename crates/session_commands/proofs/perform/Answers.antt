@@ -8,6 +8,8 @@ use mir.Syntax.{w16, w32, w64}
 use mir.Val.{to_z, of_z}
 use Rattle.command.specs.declared.Command.TheVariants.{Put, Carry, Read, Left}
 use Rattle.server.specs.Calls.{produce_call}
+use Rattle.std.specs.declared.result.Result.TheVariants.{Ok}
+use Rattle.session.specs.declared.Results.TheVariants.{Left as LeftCount}
 use Rattle.session.specs.Memory.{memory, index_of}
 use Rattle.session.specs.Commands.{called, performed}
 use Rattle.session.proofs.CommandSteps.{performed-as, on-log-as, named-as, same-put}
@@ -50,7 +52,7 @@ returns-in-Read c =
 pub returns-in-Left : goal.returns-in-Left
 returns-in-Left c =
     let a = c.args in
-    performed-as (Left c.in-Left.place) a.line.now (memory a.s.now a.log.now a.words.now a.payloads.now) _ a.s.now c.in-Left.is
+    performed-as (Left c.in-Left.place) a.line.now (memory a.s.now a.log.now a.words.now a.payloads.now) (Ok (LeftCount c.left.result)) a.s.now c.in-Left.is
     (unfold performed in (ap (λ (count : ℕ). accepted (pos count ∷ [])) c.left.ensures, refl))
 
 pub returns-in_default : goal.returns-in_default
