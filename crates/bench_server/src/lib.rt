@@ -60,8 +60,10 @@ pub struct Call {
     pub arguments: [u64; 5],
 }
 
-// A number of a script, which is two's complement, as a signed one of a width; where it does not fit, the nearest.
-pub fn signed<T: Integer + Not<Output = T>>(x: u64) -> T {
+// A number of a script, which is two's complement, as a signed one of a width; where it does not fit, the nearest. A signed integer has `!` at every value.
+pub fn signed<T: Integer + Not<Output = T>>(x: u64) -> T
+    requires { (y : T) → T.can_not y }
+{
     if x < SIGN {
         return numbers::to_signed::<T>(x);
     }
