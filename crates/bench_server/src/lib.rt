@@ -118,7 +118,15 @@ impl Server {
     pub fn end(&mut self, call: Call, log: &mut [u8], name: &[u8]) -> Outcome {
         let [pid, epoch, verdict, time, _] = call.arguments;
         let s = &mut self.coordinator;
-        answered(calls::end(s, log, name, signed(pid), signed(epoch), verdict, signed(time)))
+        answered(calls::end(
+            s,
+            log,
+            name,
+            signed(pid),
+            signed(epoch),
+            verdict,
+            signed(time),
+        ))
     }
 
     pub fn tick(&mut self, call: Call, log: &mut [u8]) -> Outcome {
