@@ -49,7 +49,9 @@ pub extern "C" fn bench_calls_open(text: &[u8], log: &[u8], length: usize, round
     let mut sum: u64 = 0;
     for _ in 0..rounds {
         if let Ok(state) = calls::opening(text, log, length, 1, 0, 1000) {
-            sum = sum.wrapping_add(state.clock).wrapping_add(state.table.end as u64);
+            sum = sum
+                .wrapping_add(state.clock)
+                .wrapping_add(state.table.end as u64);
         }
     }
     sum

@@ -40,9 +40,7 @@ pub fn marker(mut p: Partition, call: Call, count: usize, words: &mut [u64]) -> 
         let k = i % answers::PLACES;
         let place = plus(place, k);
         let pid = signed_plus(pid, k);
-        answered(calls::marker(
-            &mut p, words, place, pid, epoch, verdict, leader,
-        ))
+        answered(calls::marker(&mut p, words, place, pid, epoch, verdict, leader))
     });
     bench_sums::with_partition(sum, &p)
 }

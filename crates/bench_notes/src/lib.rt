@@ -9,7 +9,20 @@ pub const WIDTH: usize = 12;
 
 // The call that these numbers say, if its kind is one.
 pub fn call_of(n: [u64; WIDTH]) -> Option<Call> {
-    let [kind, bytes, words, from, to, first, second, third, fourth, fifth, _, _] = n;
+    let [
+        kind,
+        bytes,
+        words,
+        from,
+        to,
+        first,
+        second,
+        third,
+        fourth,
+        fifth,
+        _,
+        _,
+    ] = n;
     Some(Call {
         kind: bench_server::kind_of(kind)?,
         bytes: bytes as usize,

@@ -60,8 +60,10 @@ pub struct Call {
     pub arguments: [u64; 5],
 }
 
-// A number of a script, which is two's complement, as a signed one of a width; where it does not fit, the nearest.
-pub fn signed<T: Integer + Not<Output = T>>(x: u64) -> T {
+// A number of a script, which is two's complement, as a signed one of a width; where it does not fit, the nearest. A signed integer has `!` at every value.
+pub fn signed<T: Integer + Not<Output = T>>(x: u64) -> T
+    requires { (y : T) → T.can_not y }
+{
     if x < SIGN {
         return numbers::to_signed::<T>(x);
     }
@@ -116,7 +118,15 @@ impl Server {
     pub fn end(&mut self, call: Call, log: &mut [u8], name: &[u8]) -> Outcome {
         let [pid, epoch, verdict, time, _] = call.arguments;
         let s = &mut self.coordinator;
-        answered(calls::end(s, log, name, signed(pid), signed(epoch), verdict, signed(time)))
+        answered(calls::end(
+            s,
+            log,
+            name,
+            signed(pid),
+            signed(epoch),
+            verdict,
+            signed(time),
+        ))
     }
 
     pub fn tick(&mut self, call: Call, log: &mut [u8]) -> Outcome {

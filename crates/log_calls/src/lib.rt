@@ -34,7 +34,10 @@ fn open(
 // `init LENT NAME TIMEOUT TIME`
 fn init(rt: &impl Print, c: &mut Coordinator, line: &[u8], log: &mut [u8]) -> io::Result<()> {
     let name = field(line, 2);
-    answered(rt, calls::init(c, log, name, number(line, 3), number(line, 4)))
+    answered(
+        rt,
+        calls::init(c, log, name, number(line, 3), number(line, 4)),
+    )
 }
 
 // `add LENT NAME PID EPOCH SET TIME`

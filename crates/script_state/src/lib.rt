@@ -50,8 +50,9 @@ impl State {
         };
         State {
             text: ArrayVec::try_from(&first[..]).unwrap_or_default(),
-            coordinator: calls::opening(first, &log, 0, 1, 1000, 1999)
-                .unwrap_or(opening::blank_state()),
+            coordinator: calls::opening(first, &log, 0, 1, 1000, 1999).unwrap_or(
+                opening::blank_state(),
+            ),
             log,
             partitions: [empty; PARTITIONS],
         }
