@@ -20,6 +20,7 @@ const LINE_ROOM: usize = 65536;
 const OUT_ROOM: usize = 2048;
 
 // What the lines are performed on: the session, and the buffers lent to it.
+#[derive(Drop)]
 struct Memory {
     session: Session,
     log: [u8; LOG_ROOM],
