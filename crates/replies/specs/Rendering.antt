@@ -1,37 +1,37 @@
--- How the results of a session are handed to the crate that renders lines.
-use Rattle.std.specs.Prelude.{ℕ, Bool, true, false, cond, List, [], ◌∷◌, eqb}
+-- How the response of a session is handed to the crate that renders lines.
+use Rattle.std.specs.Prelude.{ℕ, Bool, true, false, cond, List, [], ◌∷◌, eqb, Option, Some, None, Result, Ok, Err}
+use Rattle.answers.specs.Returned.{open_number_of}
+use Rattle.answers.specs.declared.OpenError.{OpenError}
 use Rattle.command.specs.declared.Command.{Command}
 use Rattle.listing.specs.declared.Results.{Results as Rendered}
 use Rattle.listing.specs.declared.Results.TheVariants.{Empty, Absent, Two, Payloads as Listed}
 use Rattle.listing.specs.declared.Reply.{Reply}
 use Rattle.listing.specs.declared.Reply.TheVariants.{Unknown, Answered}
-use Rattle.session.specs.declared.Response.{Response}
 use Rattle.session.specs.declared.Results.{Results}
 use Rattle.session.specs.declared.Results.TheVariants.{Nothing, Producer, Place, Offset, Carried, Payloads, Left}
 use Rattle.replies.specs.Shown.{is_command, shows_none}
 
 -- a place, an offset, what was carried and what is left are listed as numbers of their own, the payloads of a read as those that were lent
-abbrev pub is_own : Results → Bool
-is_own Nothing = false
-is_own (Producer pid epoch) = false
-is_own (Place place) = true
-is_own (Offset offset) = true
-is_own (Carried place position verdict) = true
-is_own (Payloads count) = false
-is_own (Left count) = true
+abbrev pub own_of : Results → Option (List ℕ)
+own_of Nothing = None
+own_of (Producer pid epoch) = None
+own_of (Place place) = Some (place ∷ 0 ∷ 0 ∷ [])
+own_of (Offset offset) = Some (offset ∷ 0 ∷ 0 ∷ [])
+own_of (Carried place position verdict) = Some (place ∷ position ∷ verdict ∷ [])
+own_of (Payloads count) = None
+own_of (Left count) = Some (count ∷ 0 ∷ 0 ∷ [])
 
-abbrev pub own_numbers : Results → List ℕ
-own_numbers Nothing = 0 ∷ 0 ∷ 0 ∷ []
-own_numbers (Producer pid epoch) = 0 ∷ 0 ∷ 0 ∷ []
-own_numbers (Place place) = place ∷ 0 ∷ 0 ∷ []
-own_numbers (Offset offset) = offset ∷ 0 ∷ 0 ∷ []
-own_numbers (Carried place position verdict) = place ∷ position ∷ verdict ∷ []
-own_numbers (Payloads count) = 0 ∷ 0 ∷ 0 ∷ []
-own_numbers (Left count) = count ∷ 0 ∷ 0 ∷ []
+abbrev pub own_numbers : Result Results OpenError → Option (List ℕ)
+own_numbers (Ok results) = own_of results
+own_numbers (Err error) = None
 
 -- the numbers that are listed
-abbrev pub numbers_listed : Results → List ℕ → List ℕ
-numbers_listed results payloads = cond (is_own results) (own_numbers results) payloads
+abbrev pub listed_from : Option (List ℕ) → List ℕ → List ℕ
+listed_from (Some own) payloads = own
+listed_from None payloads = payloads
+
+abbrev pub numbers_listed : Result Results OpenError → List ℕ → List ℕ
+numbers_listed r payloads = listed_from (own_numbers r) payloads
 
 abbrev pub none_rendered : Bool → Rendered
 none_rendered dash = cond dash Absent Empty
@@ -46,9 +46,10 @@ results_rendered dash (Carried place position verdict) lent = Listed 3
 results_rendered dash (Payloads count) lent = cond (eqb count 0) (none_rendered dash) (cond (eqb lent 0) (none_rendered dash) (Listed count))
 results_rendered dash (Left count) lent = Listed 1
 
--- a refusal has no results
-abbrev pub answer_rendered : Bool → Response → ℕ → Rendered
-answer_rendered dash r lent = cond (eqb r.number 0) (results_rendered dash r.results lent) Empty
+-- a refusal has its number and no results
+abbrev pub answer_rendered : Bool → Result Results OpenError → ℕ → Reply
+answer_rendered dash (Ok results) lent = Answered 0 (results_rendered dash results lent)
+answer_rendered dash (Err error) lent = Answered (open_number_of error) Empty
 
-abbrev pub reply_rendered : Command → Response → ℕ → Reply
-reply_rendered command r lent = cond (is_command command) (Answered r.number (answer_rendered (shows_none command) r lent)) Unknown
+abbrev pub reply_rendered : Command → Result Results OpenError → ℕ → Reply
+reply_rendered command r lent = cond (is_command command) (answer_rendered (shows_none command) r lent) Unknown

@@ -1,5 +1,5 @@
 -- What the program does with a line: it is parsed, performed, and answered by a line.
-use Rattle.std.specs.Prelude.{ℕ, ◌+◌, cond, List, ltb, length, Option, Some, None}
+use Rattle.std.specs.Prelude.{ℕ, ◌+◌, cond, List, ltb, length}
 use Rattle.numbers.specs.Bytes.{overwrite}
 use Rattle.command.specs.Command.{command_of}
 use Rattle.listing.specs.Limits.{line_max}
@@ -22,11 +22,6 @@ reply line m =
 -- the longest answer to any line
 abbrev pub room_for : ℕ → ℕ
 room_for payloads = line_max (3 + payloads)
-
--- what the code takes of a rendered line
-abbrev pub place_behind : Option ℕ → ℕ
-place_behind (Some next) = next
-place_behind None = 0
 
 -- the same in a lent buffer: how many bytes were written, the memory, and the buffer
 pub record Responded : Type 0 where

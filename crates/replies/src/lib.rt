@@ -5,21 +5,13 @@ ghost use Rattle.std.specs.Prelude.{◌≡◌, ◌+◌, ◌≤◌, leb, length};
 ghost use Rattle.text.specs.Lines.{Wrote};
 ghost use Rattle.session.specs.Memory.{memory};
 ghost use Rattle.session.specs.Replies.{reply_of};
-ghost use Rattle.session.specs.declared.Results.TheVariants.{Payloads};
 ghost use Rattle.replies.specs.Shown.{is_command, shows_none, line_shown};
-ghost use Rattle.replies.specs.Reply.{room_for, place_behind, responded};
-ghost use Rattle.replies.specs.Rendering.{none_rendered, is_own, own_numbers, results_rendered, answer_rendered, reply_rendered};
+ghost use Rattle.replies.specs.Reply.{room_for, responded};
+ghost use Rattle.replies.specs.Rendering.{own_numbers, results_rendered, answer_rendered, reply_rendered};
 
 use command::Command;
 use listing::Reply;
-use session::{Response, Session};
-
-// The session after a line, and how many bytes of the answer were written; none where the buffer is too short for some answers.
-#[derive(Clone, Copy)]
-pub struct Responded {
-    pub session: Session,
-    pub written: usize,
-}
+use session::{Response, Results, Session};
 
 // ---- What is shown.
 
@@ -34,133 +26,69 @@ fn is_command(command: Command) -> bool
 fn shows_none(command: Command) -> bool
     ensures { result ≡ shows_none command }
 {
-    match command {
-        Command::Init {
-            name: _,
-            timeout: _,
-            time: _,
-        } => true,
-        Command::Add {
-            name: _,
-            pid: _,
-            epoch: _,
-            set: _,
-            time: _,
-        } => false,
-        Command::End {
-            name: _,
-            pid: _,
-            epoch: _,
-            verdict: _,
-            time: _,
-        } => false,
-        Command::Tick { time: _ } => true,
-        Command::Flush => false,
-        Command::Put {
-            name: _,
-            pid: _,
-            epoch: _,
-            position: _,
-            sequence: _,
-            payload: _,
-        } => false,
-        Command::Carry { up: _ } => true,
-        Command::Read { position: _ } => true,
-        Command::Cut { kept: _ } => false,
-        Command::Left { place: _ } => false,
-        Command::Unknown => false,
-    }
+    matches!(
+        command,
+        Command::Init { .. } | Command::Tick { .. } | Command::Carry { .. } | Command::Read { .. }
+    )
 }
 
-// Whether the results are listed as numbers of their own.
-fn is_own(results: session::Results) -> bool
-    ensures { result ≡ is_own results }
+// The results that are listed as numbers of their own.
+fn own_numbers(response: Response) -> Option<[u64; 3]>
+    ensures { result ≡ own_numbers response }
 {
-    match results {
-        session::Results::Nothing => false,
-        session::Results::Producer(_, _) => false,
-        session::Results::Place(_) => true,
-        session::Results::Offset(_) => true,
-        session::Results::Carried {
-            place: _,
-            position: _,
-            verdict: _,
-        } => true,
-        session::Results::Payloads(_) => false,
-        session::Results::Left(_) => true,
-    }
-}
-
-// These numbers.
-fn own_numbers(results: session::Results) -> [u64; 3]
-    ensures { result ≡ own_numbers results }
-{
-    match results {
-        session::Results::Nothing => [0, 0, 0],
-        session::Results::Producer(_, _) => [0, 0, 0],
-        session::Results::Place(place) => [place as u64, 0, 0],
-        session::Results::Offset(offset) => [offset as u64, 0, 0],
-        session::Results::Carried {
+    match response {
+        Ok(Results::Place(place)) => Some([place as u64, 0, 0]),
+        Ok(Results::Offset(offset)) => Some([offset as u64, 0, 0]),
+        Ok(Results::Carried {
             place,
             position,
             verdict,
-        } => [place as u64, position as u64, verdict],
-        session::Results::Payloads(_) => [0, 0, 0],
-        session::Results::Left(count) => [count as u64, 0, 0],
+        }) => Some([place as u64, position as u64, verdict]),
+        Ok(Results::Left(count)) => Some([u64::from(count), 0, 0]),
+        _ => None,
     }
 }
 
-// What stands for no results.
-fn none_rendered(dash: bool) -> listing::Results
-    ensures { result ≡ none_rendered dash }
-{
-    if dash {
-        return listing::Results::Absent;
-    }
-    listing::Results::Empty
-}
-
-// So many of the lent payloads.
-fn payloads_rendered(dash: bool, count: usize, lent: usize) -> listing::Results
-    ensures { result ≡ results_rendered dash (Payloads count) lent }
-{
-    if count == 0 {
-        return none_rendered(dash);
-    }
-    if lent == 0 {
-        return none_rendered(dash);
-    }
-    listing::Results::Payloads(count)
-}
-
-// The results of an accepted command.
-fn results_rendered(dash: bool, results: session::Results, lent: usize) -> listing::Results
+// The results of an accepted command, with so many payloads lent.
+fn results_rendered(dash: bool, results: Results, lent: usize) -> listing::Results
     ensures { result ≡ results_rendered dash results lent }
 {
+    let none = if dash {
+        listing::Results::Absent
+    } else {
+        listing::Results::Empty
+    };
     match results {
-        session::Results::Nothing => none_rendered(dash),
-        session::Results::Producer(pid, epoch) => { listing::Results::Two(pid, i64::from(epoch)) }
-        session::Results::Place(_) => listing::Results::Payloads(1),
-        session::Results::Offset(_) => listing::Results::Payloads(1),
-        session::Results::Carried {
-            place: _,
-            position: _,
-            verdict: _,
-        } => listing::Results::Payloads(3),
-        session::Results::Payloads(count) => payloads_rendered(dash, count, lent),
-        session::Results::Left(_) => listing::Results::Payloads(1),
+        Results::Nothing => none,
+        Results::Producer { pid, epoch } => listing::Results::Two(pid, i64::from(epoch)),
+        Results::Place(_) => listing::Results::Payloads(1),
+        Results::Offset(_) => listing::Results::Payloads(1),
+        Results::Carried { .. } => listing::Results::Payloads(3),
+        Results::Payloads(count) => {
+            if count == 0 || lent == 0 {
+                none
+            } else {
+                listing::Results::Payloads(count)
+            }
+        }
+        Results::Left(_) => listing::Results::Payloads(1),
     }
 }
 
-// A refusal has no results.
-fn answer_rendered(dash: bool, response: Response, lent: usize) -> listing::Results
+// A refusal has its number and no results.
+fn answer_rendered(dash: bool, response: Response, lent: usize) -> Reply
     ensures { result ≡ answer_rendered dash response lent }
 {
-    if response.number != 0 {
-        return listing::Results::Empty;
+    match response {
+        Ok(results) => Reply::Answered {
+            number: 0,
+            results: results_rendered(dash, results, lent),
+        },
+        Err(error) => Reply::Answered {
+            number: u8::from(error),
+            results: listing::Results::Empty,
+        },
     }
-    let results = response.results;
-    results_rendered(dash, results, lent)
 }
 
 // What is rendered of a response, with so many payloads lent.
@@ -170,20 +98,10 @@ fn reply_rendered(command: Command, response: Response, lent: usize) -> Reply
     if !is_command(command) {
         return Reply::Unknown;
     }
-    Reply::Answered {
-        number: response.number,
-        results: answer_rendered(shows_none(command), response, lent),
-    }
+    answer_rendered(shows_none(command), response, lent)
 }
 
 // ---- Writing it.
-
-// The place behind the line, and the front where it was not written.
-fn place_behind(rendered: Option<usize>) -> usize
-    ensures { result ≡ place_behind rendered }
-{
-    rendered.unwrap_or(0)
-}
 
 // Writes the answer line where every answer fits; the result is its length.
 fn write_reply(
@@ -199,12 +117,10 @@ fn write_reply(
 {
     let row = command::row_of_command(command);
     let reply = reply_rendered(command, response, payloads.len());
-    let results = response.results;
-    if is_own(results) {
-        let own = own_numbers(results);
-        return place_behind(listing::render(out, 0, row, reply, end, flushed, &own));
+    if let Some(own) = own_numbers(response) {
+        return listing::render(out, 0, row, reply, end, flushed, &own).unwrap_or(0);
     }
-    place_behind(listing::render(out, 0, row, reply, end, flushed, payloads))
+    listing::render(out, 0, row, reply, end, flushed, payloads).unwrap_or(0)
 }
 
 // Whether n bytes hold every answer with so many payloads.
@@ -220,29 +136,23 @@ fn has_room(n: usize, payloads: usize) -> bool
 
 // ---- A line.
 
-// The answer to a line of any bytes, and what it does to the session and the buffers.
+// Answers a line of any bytes: what it does to the session and the buffers, and how many bytes of the answer were written; none where the buffer is too short for some answers.
 pub fn respond(
-    s: Session,
+    s: &mut Session,
     line: &[u8],
     log: &mut [u8],
     words: &mut [u64],
     payloads: &mut [u64],
     out: &mut [u8],
-) -> Responded
-    ensures { (record { written = result.written; memory = memory result.session log.new words.new payloads.new; out = out.new } ≡ responded line.now (memory s log.old words.old payloads.old) out.old) × (result.written ≤ length out.new) }
+) -> usize
+    ensures { (record { written = result; memory = memory s.new log.new words.new payloads.new; out = out.new } ≡ responded line.now (memory s.old log.old words.old payloads.old) out.old) × (result ≤ length out.new) }
 {
     if !has_room(out.len(), payloads.len()) {
-        return Responded {
-            session: s,
-            written: 0,
-        };
+        return 0;
     }
     let command = command::parse(line);
-    let made = session_commands::perform(s, command, line, log, words, payloads);
-    let response = made.response;
-    let session = made.session;
-    let c = session.coordinator;
-    let end = c.table.end;
-    let written = write_reply(out, command, response, end, c.flushed, payloads);
-    Responded { session, written }
+    let response = session_commands::perform(s, command, line, log, words, payloads);
+    let end = s.coordinator.table.end;
+    let flushed = s.coordinator.flushed;
+    write_reply(out, command, response, end, flushed, payloads)
 }

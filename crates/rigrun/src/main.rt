@@ -19,61 +19,62 @@ const LINE_ROOM: usize = 65536;
 
 const OUT_ROOM: usize = 2048;
 
-// Answers a line.
-fn answer(
-    rt: &impl Print,
-    s: Session,
-    line: &[u8],
-    log: &mut [u8],
-    words: &mut [u64],
-    payloads: &mut [u64],
-) -> io::Result<Session> {
-    let mut out = [0u8; OUT_ROOM];
-    let made = replies::respond(s, line, log, words, payloads, &mut out);
-    let written = made.written;
-    if written <= OUT_ROOM {
-        rt.write_all(&out[..written])?;
-    }
-    Ok(made.session)
+// What the lines are performed on: the session, and the buffers lent to it.
+#[derive(Drop)]
+struct Memory {
+    session: Session,
+    log: [u8; LOG_ROOM],
+    words: [u64; WORDS_ROOM],
+    payloads: [u64; PAYLOADS],
 }
 
-// Answers what was read. A line that did not fit the buffer is answered as the line `?`: it is no command.
-fn answer_step(
-    rt: &impl Print,
-    s: Session,
-    buffer: &[u8],
-    step: Step,
-    log: &mut [u8],
-    words: &mut [u64],
-    payloads: &mut [u64],
-) -> io::Result<Session> {
-    match step {
-        Step::Line { from, len, rest: _ } => {
-            let line = input_lines::part(buffer, from, len);
-            answer(rt, s, line, log, words, payloads)
+impl Memory {
+    // Of a session over an empty log.
+    fn opened() -> Memory {
+        let log = [0u8; LOG_ROOM];
+        let words = [0u64; WORDS_ROOM];
+        Memory {
+            session: session::opened(&log, &words),
+            log,
+            words,
+            payloads: [0u64; PAYLOADS],
         }
-        Step::Long { rest: _ } => answer(rt, s, b"?", log, words, payloads),
-        _ => Ok(s),
+    }
+
+    // Answers a line.
+    fn answer(&mut self, rt: &impl Print, line: &[u8]) -> io::Result<()> {
+        let mut out = [0u8; OUT_ROOM];
+        let written = replies::respond(
+            &mut self.session,
+            line,
+            &mut self.log,
+            &mut self.words,
+            &mut self.payloads,
+            &mut out,
+        );
+        rt.write_all(&out[..written])
+    }
+
+    // Answers what was read. A line that did not fit the buffer is answered as the line `?`: it is no command.
+    fn answer_step(&mut self, rt: &impl Print, buffer: &[u8], step: Step) -> io::Result<()> {
+        match step {
+            Step::Line { from, len, .. } => self.answer(rt, input_lines::part(buffer, from, len)),
+            Step::Long { .. } => self.answer(rt, b"?"),
+            _ => Ok(()),
+        }
     }
 }
 
 // Reads and answers until there is no more.
-fn run(
-    rt: &impl Print,
-    input: &mut impl Read,
-    buffer: &mut [u8],
-    log: &mut [u8],
-    words: &mut [u64],
-    payloads: &mut [u64],
-) -> io::Result<()> {
-    let mut session = session::opened(log, words);
+fn run(rt: &impl Print, input: &mut impl Read, buffer: &mut [u8]) -> io::Result<()> {
+    let mut memory = Memory::opened();
     let mut cursor = input_lines::start();
     for _ in 0..u64::MAX {
         let step = input_lines::next(input, buffer, cursor)?;
         if input_lines::is_end(step) {
             break;
         }
-        session = answer_step(rt, session, buffer, step, log, words, payloads)?;
+        memory.answer_step(rt, buffer, step)?;
         cursor = input_lines::behind(step);
     }
     Ok(())
@@ -81,16 +82,6 @@ fn run(
 
 fn main(rt: HostRuntime) -> io::Result<()> {
     let mut input = rt.stdin();
-    let mut log = [0u8; LOG_ROOM];
-    let mut words = [0u64; WORDS_ROOM];
-    let mut payloads = [0u64; PAYLOADS];
     let mut buffer = [0u8; LINE_ROOM];
-    run(
-        &rt,
-        &mut input,
-        &mut buffer,
-        &mut log,
-        &mut words,
-        &mut payloads,
-    )
+    run(&rt, &mut input, &mut buffer)
 }

@@ -136,7 +136,7 @@ error-number : (error : OpenError) → (open_reply (open_error_of error)).number
 error-number (BadLog offset) = refl
 error-number (RefusedError refusal) = refl
 
-error-positive : (error : OpenError) → open_number_of error ≡ 0 → ⊥
+pub error-positive : (error : OpenError) → open_number_of error ≡ 0 → ⊥
 error-positive (BadLog offset) h = omega (arith, h)
 error-positive (RefusedError refusal) h = number-positive refusal h
 

@@ -1,7 +1,6 @@
 -- `replies::reply_rendered` meets its contract.
 use mathlib.Core.Bool.{Bool}
 use mathlib.Core.Path.{sym, ap, ◌∙◌}
-use Rattle.listing.specs.declared.Reply.TheVariants.{Answered}
 use Rattle.replies.specs.Rendering.{answer_rendered}
 use Rattle.replies.proofs.reply_rendered.Goals as goal
 
@@ -11,4 +10,4 @@ returns-then-not-is_command c = rw (sym c.is_command.ensures ∙ c.if-not-is_com
 pub returns : goal.returns
 returns c =
     let a = c.args in
-    rw (sym c.is_command.ensures ∙ c.if-not-is_command.false) (ap (Answered a.response.number) (c.answer_rendered.ensures ∙ ap (λ (b : Bool). answer_rendered b a.response a.lent) c.shows_none.ensures))
+    rw (sym c.is_command.ensures ∙ c.if-not-is_command.false) (c.answer_rendered.ensures ∙ ap (λ (b : Bool). answer_rendered b a.response a.lent) c.shows_none.ensures)
