@@ -1,8 +1,7 @@
 -- Laws of carrying until nothing is left.
-use Prim.Native.Nat.{ℕ, zero, suc, ◌-◌, ◌<◌}
+use Prim.Native.Nat.{ℕ, zero, suc}
 use mathlib.Core.Path.{◌≡◌, refl}
 use mathlib.Core.Bool.{true, false}
-use native.Mathlib.Omega.{arith}
 use Rattle.session.specs.Memory.{Memory}
 use Rattle.after_cut.specs.AfterCut.{is_left, round, carried_all}
 
@@ -18,7 +17,6 @@ unfolding carried_all
 carried-end n m e = rw e
 
 -- one round more
-pub carried_on : (n : ℕ) (m next : Memory) → 0 < n → is_left m ≡ true → next ≡ round m → carried_all (n - 1) next ≡ carried_all n m
+pub carried_on : (k : ℕ) {n : ℕ} (m next : Memory) → n ≡ suc k → is_left m ≡ true → next ≡ round m → carried_all k next ≡ carried_all n m
 unfolding carried_all
-carried_on zero m next h e r = absurd (omega arith)
-carried_on (suc n) m next h e r = let k : suc n - 1 ≡ n = omega arith in rw (e, r, k)
+carried_on k m next h e r = rw (h, e, r)

@@ -1,8 +1,6 @@
 // The lines that the program every_cut prints: what is read after a cut, and the counts.
 #![tactic(auto)]
 
-ghost use Rattle.std.specs.Prelude.{◌≡◌, min};
-
 use command::Command;
 use session::{Response, Results, Session};
 use std::io;
@@ -12,16 +10,9 @@ fn print_field(rt: &impl Print, n: u64) -> io::Result<()> {
     print!(rt; "\t{n}")
 }
 
-// The lesser of two numbers.
-fn lesser(a: usize, b: usize) -> usize
-    ensures { result ≡ min a b }
-{
-    if a < b { a } else { b }
-}
-
 // The first payloads, and `-` if there are none.
 fn print_payloads(rt: &impl Print, payloads: &[u64], count: usize) -> io::Result<()> {
-    let n = lesser(count, payloads.len());
+    let n = count.min(payloads.len());
     if n == 0 {
         print!(rt; "\t-")?;
     }
@@ -33,9 +24,8 @@ fn print_payloads(rt: &impl Print, payloads: &[u64], count: usize) -> io::Result
 
 // How many payloads a Read has copied.
 fn count_of(response: Response) -> usize {
-    let results = response.results;
-    match results {
-        Results::Payloads(count) => count,
+    match response {
+        Ok(Results::Payloads(count)) => count,
         _ => 0,
     }
 }
@@ -43,15 +33,14 @@ fn count_of(response: Response) -> usize {
 // A position, and what Read gives there.
 fn print_read(
     rt: &impl Print,
-    s: Session,
+    s: &mut Session,
     position: u64,
     log: &mut [u8],
     words: &mut [u64],
     payloads: &mut [u64],
 ) -> io::Result<()> {
     let command = Command::Read { position };
-    let made = session_commands::perform(s, command, b"", log, words, payloads);
-    let response = made.response;
+    let response = session_commands::perform(s, command, b"", log, words, payloads);
     print_field(rt, position)?;
     print_payloads(rt, payloads, count_of(response))
 }
@@ -59,7 +48,7 @@ fn print_read(
 // The line of a length: what Read gives at each position of the catalogue.
 pub fn print_line(
     rt: &impl Print,
-    s: Session,
+    s: &mut Session,
     length: usize,
     log: &mut [u8],
     words: &mut [u64],

@@ -8,20 +8,17 @@ use std::io::Read;
 
 // Performs what was read; a line that did not fit the buffer is no command.
 fn perform_step(
-    s: Session,
+    s: &mut Session,
     buffer: &[u8],
     step: Step,
     log: &mut [u8],
     words: &mut [u64],
     payloads: &mut [u64],
-) -> Session {
-    match step {
-        Step::Line { from, len, rest: _ } => {
-            let line = input_lines::part(buffer, from, len);
-            let command = command::parse(line);
-            session_commands::perform(s, command, line, log, words, payloads).session
-        }
-        _ => s,
+) {
+    if let Step::Line { from, len, .. } = step {
+        let line = input_lines::part(buffer, from, len);
+        let command = command::parse(line);
+        let _ = session_commands::perform(s, command, line, log, words, payloads);
     }
 }
 
@@ -40,7 +37,7 @@ pub fn run_script(
         if input_lines::is_end(step) {
             break;
         }
-        session = perform_step(session, buffer, step, log, words, payloads);
+        perform_step(&mut session, buffer, step, log, words, payloads);
         cursor = input_lines::behind(step);
     }
     Ok(session)

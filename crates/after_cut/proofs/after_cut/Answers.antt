@@ -11,5 +11,5 @@ use Rattle.after_cut.proofs.after_cut.Goals as goal
 pub returns : goal.returns
 returns c =
     let a = c.args in
-    let opened = ap (λ (k : ℕ). (performed (Cut k) [] (memory a.s a.log.now a.words.now a.payloads.now)).memory) c.saturating_sub-kept.ensures in
-    c.carry_all.ensures ∙ ap (carried_all carries_max) (c.perform-opened.ensures ∙ opened)
+    let opened = ap (λ (k : ℕ). (performed (Cut k) [] (memory a.s.now a.log.now a.words.now a.payloads.now)).memory) c.saturating_sub-kept.ensures in
+    c.carry_all.ensures ∙ ap (carried_all carries_max) (c.perform.ensures ∙ opened)

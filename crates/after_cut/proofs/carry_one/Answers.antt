@@ -7,4 +7,4 @@ use Rattle.session.specs.Commands.{performed}
 use Rattle.after_cut.proofs.carry_one.Goals as goal
 
 pub returns : goal.returns
-returns c = c.perform.ensures ∙ ap (λ (m : Memory). (performed Flush [] m).memory) c.perform-carried.ensures
+returns c = c.perform-2.ensures ∙ ap (λ (m : Memory). (performed Flush [] m).memory) c.perform.ensures
