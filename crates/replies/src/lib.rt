@@ -39,11 +39,13 @@ fn own_numbers(response: Response) -> Option<[u64; 3]>
     match response {
         Ok(Results::Place(place)) => Some([place as u64, 0, 0]),
         Ok(Results::Offset(offset)) => Some([offset as u64, 0, 0]),
-        Ok(Results::Carried {
-            place,
-            position,
-            verdict,
-        }) => Some([place as u64, position as u64, verdict]),
+        Ok(
+            Results::Carried {
+                place,
+                position,
+                verdict,
+            },
+        ) => Some([place as u64, position as u64, verdict]),
         Ok(Results::Left(count)) => Some([u64::from(count), 0, 0]),
         _ => None,
     }

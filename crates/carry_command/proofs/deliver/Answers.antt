@@ -40,9 +40,9 @@ returns-in_err-marker c payloads =
     let k : to_z w32 (of_z w32 o.coordinator) ≡ o.coordinator = search rules in
     let sized : length a.s.now.partitions ≡ partitions = search (rules, length-mapped) in
     let done = partition-performs a.s.now a.log.now a.words.now payloads (index_of o.position) reply
-      (λ (x : Partition) (n : ℕ). marker_decision x n o.place o.pid o.epoch o.verdict o.coordinator)
-      c.index_of-index.ensures.0 (default a.s.now.partitions c.index_of-index.result _ (open_partition 0) (omega (arith, sized, c.index_of-index.ensures.1))) c.words_start-start.ensures.0
-      (rw (p, q, k) at c.in_err-marker.ensures) refl refl in
+    (λ (x : Partition) (n : ℕ). marker_decision x n o.place o.pid o.epoch o.verdict o.coordinator)
+    c.index_of-index.ensures.0 (default a.s.now.partitions c.index_of-index.result _ (open_partition 0) (omega (arith, sized, c.index_of-index.ensures.1))) c.words_start-start.ensures.0
+    (rw (p, q, k) at c.in_err-marker.ensures) refl refl in
     rw (error_passed _ _ c.from_residual.ensures)
     (stops (marked (goal.at.returns-in_err-marker c).Start payloads) (acknowledges o.place o.pid o.epoch o.verdict o.position) (Err (Refused c.in_err-marker.field-0.0)) _
     (λ z. number-positive c.in_err-marker.field-0.0 (ap (λ (x : Reply). x.number) done.0 ∙ z)) done)
@@ -56,8 +56,8 @@ returns c payloads =
     let k : to_z w32 (of_z w32 o.coordinator) ≡ o.coordinator = search rules in
     let sized : length a.s.now.partitions ≡ partitions = search (rules, length-mapped) in
     let done = partition-performs a.s.now a.log.now a.words.now payloads (index_of o.position) reply
-      (λ (x : Partition) (n : ℕ). marker_decision x n o.place o.pid o.epoch o.verdict o.coordinator)
-      c.index_of-index.ensures.0 (default a.s.now.partitions c.index_of-index.result _ (open_partition 0) (omega (arith, sized, c.index_of-index.ensures.1))) c.words_start-start.ensures.0
-      (rw (p, q, k) at c.in_ok-marker.ensures) refl refl in
+    (λ (x : Partition) (n : ℕ). marker_decision x n o.place o.pid o.epoch o.verdict o.coordinator)
+    c.index_of-index.ensures.0 (default a.s.now.partitions c.index_of-index.result _ (open_partition 0) (omega (arith, sized, c.index_of-index.ensures.1))) c.words_start-start.ensures.0
+    (rw (p, q, k) at c.in_ok-marker.ensures) refl refl in
     goes_on_lem (marked (goal.at.returns c).Start payloads) (acknowledges o.place o.pid o.epoch o.verdict o.position) c.acknowledge.result c.acknowledge.new.s
     (sym (ap (λ (x : Reply). x.number) done.0)) done.1 (c.acknowledge.ensures _ payloads)
