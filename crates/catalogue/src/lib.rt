@@ -19,7 +19,7 @@ const TAB: u8 = b'\t';
 
 const LINE_FEED: u8 = b'\n';
 
-// Topic t's name is the sixteen bytes from 16 * t on, padded with zeros; `all` has the positions of all partitions.
+// Topic t's name is the sixteen bytes from 16 * t on, padded with zeros; `all` has the positions of all partitions: every call tests positions by it alone, so it stands beside the names and not in them.
 #[derive(Clone, Copy)]
 pub struct Catalogue {
     pub names: [u8; NAMES],
@@ -119,7 +119,7 @@ fn is_new(c: &Catalogue, t: usize) -> bool
     true
 }
 
-// The catalogue of a text, if it gives one. Any bytes are answered.
+// The catalogue of a text, if it gives one. Any bytes are answered. The loop counts no index: each turn goes on behind the line that was read.
 pub fn parse(text: &[u8]) -> Option<Catalogue>
     ensures { parsed_of result ≡ parse text.now }
 {

@@ -20,7 +20,7 @@ pub fn write_bytes(out: &mut [u8], at: usize, run: &[u8]) -> usize
     at + run.len()
 }
 
-// Writes the shortest decimal of a number, which is spelled at the end of an array first.
+// Writes the shortest decimal of a number, which is spelled at the end of an array first. The loop counts no index: it takes the number apart until one digit is left.
 fn write_decimal(out: &mut [u8], at: usize, x: u64) -> usize
     requires { at + length (decimal x) ≤ length out.old }
     ensures { Wrote (decimal x) out.old at result out.new }
