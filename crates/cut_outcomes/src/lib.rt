@@ -56,7 +56,7 @@ pub fn outcome(flushed: usize, before: &Table, after: &Table) -> u64
 
 // ---- The outcomes that were seen.
 
-// Notes an outcome behind the first `count` of a store, if it is new and there is room; the answer is how many there are then.
+// Notes an outcome behind the first `count` of a store, if it is new and there is room; the answer is how many there are then. Store and count stand apart, as `Noted` speaks of them.
 pub fn note(store: &mut [u64], count: usize, outcome: u64) -> usize
     ensures { count < length store.old → Noted store.old count outcome store.new result }
 {
