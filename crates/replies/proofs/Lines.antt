@@ -4,11 +4,9 @@ use mathlib.Core.Path.{◌≡◌, refl, ap, ◌∙◌}
 use mathlib.Core.Bool.{Bool, true, false, cond}
 use mathlib.Core.List.{List, [], ◌∷◌, map}
 use native.Mathlib.Omega.{arith}
-use lib.Dec.{eqb}
 use lib.IntN.{pos}
 use lib.ListN.{length, take}
 use borrow.Author.Tests.{ne_eqb, le-ltb}
-use Rattle.numbers.proofs.Tests.{by_cases}
 use Rattle.text.specs.Decimal.{decimal, signed_decimal}
 use Rattle.text.specs.Lines.{line, Wrote}
 use Rattle.command.specs.declared.Command.{Command}
@@ -17,8 +15,7 @@ use Rattle.command.specs.Words.{word_at}
 use Rattle.listing.specs.Listing.{number_field, results_of as results_in, result_fields, reply_line, render_answer, render_bytes, Within}
 use Rattle.listing.specs.Limits.{line_max}
 use Rattle.listing.specs.declared.Reply.{Reply as Shown}
-use Rattle.listing.specs.declared.Reply.TheVariants.{Unknown, Answered}
-use Rattle.listing.specs.declared.Results.TheVariants.{Empty}
+use Rattle.listing.specs.declared.Reply.TheVariants.{Unknown}
 use Rattle.std.specs.Prelude.{Option, Some, None, unwrap_or, Result, Ok, Err}
 use Rattle.answers.specs.Returned.{open_number_of}
 use Rattle.answers.specs.declared.OpenError.{OpenError}
@@ -26,7 +23,7 @@ use Rattle.session.specs.Replies.{values_of, reply_of}
 use Rattle.session.proofs.CommandSteps.{error-positive}
 use Rattle.session.specs.declared.Results.{Results}
 use Rattle.session.specs.declared.Results.TheVariants.{Nothing, Producer, Place, Offset, Carried, Payloads, Left}
-use Rattle.replies.specs.Shown.{is_command, shows_none, results_shown, results_of, fields_shown, line_shown}
+use Rattle.replies.specs.Shown.{is_command, shows_none, results_shown, fields_shown, line_shown}
 use Rattle.replies.specs.Reply.{room_for}
 use Rattle.replies.specs.Rendering.{own_of, own_numbers, listed_from, numbers_listed, none_rendered, results_rendered, answer_rendered, reply_rendered}
 

@@ -1,15 +1,14 @@
--- The test for room, and what a line does in a buffer.
-use Prim.Native.Nat.{ℕ, ◌+◌, ◌-◌, ◌/◌, ◌≤◌, ◌<◌}
-use mathlib.Core.Path.{◌≡◌, refl, sym, ap, subst, ◌∙◌}
-use mathlib.Core.Bool.{Bool, true, false}
+-- What a line does in a buffer.
+use Prim.Native.Nat.{ℕ}
+use mathlib.Core.Path.{◌≡◌, ap, subst, ◌∙◌}
+use mathlib.Core.Bool.{true, false}
 use mathlib.Core.List.{List}
 use native.Mathlib.Omega.{arith}
 use lib.Dec.{leb}
 use lib.ListN.{length}
-use borrow.Author.Tests.{leb-true, leb-false, le-leb, lt-leb, lt-ltb, le-ltb}
+use borrow.Author.Tests.{leb-true, leb-false, lt-ltb, le-ltb}
 use Rattle.numbers.specs.Bytes.{overwrite}
 use Rattle.text.specs.Lines.{Wrote}
-use Rattle.listing.specs.Limits.{field_max, fields_fixed}
 use Rattle.answers.specs.Answers.{Reply}
 use Rattle.command.specs.Command.{command_of}
 use Rattle.command.specs.declared.Command.{Command}
@@ -22,17 +21,6 @@ use Rattle.answers.specs.declared.OpenError.{OpenError}
 use Rattle.std.specs.Prelude.{Result}
 use Rattle.replies.specs.Shown.{line_shown, answer_line}
 use Rattle.replies.specs.Reply.{reply, room_for, Responded, responded}
-
-module _ (n payloads : ℕ) where
-  pub room-short : n / field_max < fields_fixed + 3 → false ≡ leb (room_for payloads) n
-  room-short h = sym (lt-leb (room_for payloads) n (omega arith))
-
-  pub room-tested : fields_fixed + 3 ≤ n / field_max → leb payloads (n / field_max - (fields_fixed + 3)) ≡ leb (room_for payloads) n
-  room-tested h = go (leb payloads (n / field_max - (fields_fixed + 3))) refl
-    where
-      go : (b : Bool) → leb payloads (n / field_max - (fields_fixed + 3)) ≡ b → b ≡ leb (room_for payloads) n
-      go true e = sym (le-leb (room_for payloads) n (omega (arith, leb-true payloads (n / field_max - (fields_fixed + 3)) e)))
-      go false e = sym (lt-leb (room_for payloads) n (omega (arith, leb-false payloads (n / field_max - (fields_fixed + 3)) e)))
 
 -- a line written at the front
 abbrev with-memory : List ℕ → List ℕ → Memory → Responded

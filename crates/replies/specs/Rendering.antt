@@ -1,5 +1,5 @@
 -- How the response of a session is handed to the crate that renders lines.
-use Rattle.std.specs.Prelude.{ℕ, Bool, true, false, cond, List, [], ◌∷◌, eqb, Option, Some, None, Result, Ok, Err}
+use Rattle.std.specs.Prelude.{ℕ, Bool, cond, List, [], ◌∷◌, eqb, Option, Some, None, Result, Ok, Err}
 use Rattle.answers.specs.Returned.{open_number_of}
 use Rattle.answers.specs.declared.OpenError.{OpenError}
 use Rattle.command.specs.declared.Command.{Command}

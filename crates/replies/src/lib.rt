@@ -61,19 +61,11 @@ fn results_rendered(dash: bool, results: Results, lent: usize) -> listing::Resul
         listing::Results::Empty
     };
     match results {
-        Results::Nothing => none,
         Results::Producer { pid, epoch } => listing::Results::Two(pid, i64::from(epoch)),
-        Results::Place(_) => listing::Results::Payloads(1),
-        Results::Offset(_) => listing::Results::Payloads(1),
+        Results::Place(_) | Results::Offset(_) | Results::Left(_) => listing::Results::Payloads(1),
         Results::Carried { .. } => listing::Results::Payloads(3),
-        Results::Payloads(count) => {
-            if count == 0 || lent == 0 {
-                none
-            } else {
-                listing::Results::Payloads(count)
-            }
-        }
-        Results::Left(_) => listing::Results::Payloads(1),
+        Results::Payloads(count) if count != 0 && lent != 0 => listing::Results::Payloads(count),
+        Results::Nothing | Results::Payloads(_) => none,
     }
 }
 
@@ -119,10 +111,12 @@ fn write_reply(
 {
     let row = command::row_of_command(command);
     let reply = reply_rendered(command, response, payloads.len());
-    if let Some(own) = own_numbers(response) {
-        return listing::render(out, 0, row, reply, end, flushed, &own).unwrap_or(0);
-    }
-    listing::render(out, 0, row, reply, end, flushed, payloads).unwrap_or(0)
+    let own = own_numbers(response);
+    let listed = match &own {
+        Some(own) => own.as_slice(),
+        None => payloads,
+    };
+    listing::render(out, 0, row, reply, end, flushed, listed).unwrap_or(0)
 }
 
 // Whether n bytes hold every answer with so many payloads.
