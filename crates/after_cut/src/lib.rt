@@ -22,7 +22,7 @@ fn is_left(c: &Coordinator) -> bool
     completion::order(c, u64::MAX).is_some()
 }
 
-// Does a command without a name, whatever it answers.
+// Does a command without a name, whatever it answers. The session and its buffers stand apart here and below, as `session_commands::perform` is lent them.
 fn perform(
     s: &mut Session,
     command: Command,

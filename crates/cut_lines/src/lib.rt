@@ -12,11 +12,11 @@ fn print_field(rt: &impl Print, n: u64) -> io::Result<()> {
 
 // The first payloads, and `-` if there are none.
 fn print_payloads(rt: &impl Print, payloads: &[u64], count: usize) -> io::Result<()> {
-    let n = count.min(payloads.len());
-    if n == 0 {
+    let copied = &payloads[..count.min(payloads.len())];
+    if copied.is_empty() {
         print!(rt; "\t-")?;
     }
-    for payload in &payloads[..n] {
+    for payload in copied {
         print_field(rt, *payload)?;
     }
     Ok(())
@@ -30,7 +30,7 @@ fn count_of(response: Response) -> usize {
     }
 }
 
-// A position, and what Read gives there.
+// A position, and what Read gives there. The session and its buffers stand apart here and below, as `session_commands::perform` is lent them.
 fn print_read(
     rt: &impl Print,
     s: &mut Session,

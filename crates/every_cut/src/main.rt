@@ -21,40 +21,48 @@ const LINE_ROOM: usize = 65536;
 // There is at most one outcome for each length from 0 to LOG_ROOM.
 const OUTCOMES_ROOM: usize = LOG_ROOM + 1;
 
-// Cuts copies of the session, the log and the partitions at a length, prints what can be read once all is carried, and answers the outcome, and whether it was printed.
-fn try_cut(
-    rt: &impl Print,
-    s: &Session,
-    length: usize,
+// What the script leaves: the session, and the buffers lent to it.
+#[derive(Clone, Copy)]
+struct Memory {
+    session: Session,
     log: [u8; LOG_ROOM],
     words: [u64; WORDS_ROOM],
-    payloads: &mut [u64],
-) -> (u64, io::Result<()>)
-    ensures { result.0 ≡ outcome_at length (memory s.now log words payloads.old) }
+    payloads: [u64; PAYLOADS],
+}
+
+// Cuts a copy of the log at a length, prints what can be read once all is carried, and answers the outcome, and whether it was printed.
+// The outcome is promised also where printing failed, so it stands beside the Result.
+fn try_cut(rt: &impl Print, m: &Memory, length: usize) -> (u64, io::Result<()>)
+    ensures { result.0 ≡ outcome_at length (memory m.now.session m.now.log m.now.words m.now.payloads) }
 {
-    let mut after = *s;
-    let mut log = log;
-    let mut words = words;
-    after_cut::after_cut(&mut after, length, &mut log, &mut words, payloads);
-    let outcome = after_cut::outcome(&s.coordinator, &after.coordinator);
-    let printed = cut_lines::print_line(rt, &mut after, length, &mut log, &mut words, payloads);
+    let mut copy = *m;
+    after_cut::after_cut(
+        &mut copy.session,
+        length,
+        &mut copy.log,
+        &mut copy.words,
+        &mut copy.payloads,
+    );
+    let outcome = after_cut::outcome(&m.session.coordinator, &copy.session.coordinator);
+    let printed = cut_lines::print_line(
+        rt,
+        &mut copy.session,
+        length,
+        &mut copy.log,
+        &mut copy.words,
+        &mut copy.payloads,
+    );
     (outcome, printed)
 }
 
 // Tries every length from the flushed one to the end.
-fn try_all(
-    rt: &impl Print,
-    s: &Session,
-    log: [u8; LOG_ROOM],
-    words: [u64; WORDS_ROOM],
-    payloads: &mut [u64],
-) -> io::Result<()> {
-    let flushed = s.coordinator.flushed;
-    let end = s.coordinator.table.end.min(LOG_ROOM);
+fn try_all(rt: &impl Print, memory: &Memory) -> io::Result<()> {
+    let flushed = memory.session.coordinator.flushed;
+    let end = memory.session.coordinator.table.end.min(LOG_ROOM);
     let mut seen = [0u64; OUTCOMES_ROOM];
     let mut outcomes: usize = 0;
     for length in flushed..=end {
-        let (outcome, printed) = try_cut(rt, s, length, log, words, payloads);
+        let (outcome, printed) = try_cut(rt, memory, length);
         printed?;
         outcomes = cut_outcomes::note(&mut seen, outcomes, outcome);
     }
@@ -75,5 +83,11 @@ fn main(rt: HostRuntime) -> io::Result<()> {
         &mut words,
         &mut payloads,
     )?;
-    try_all(&rt, &session, log, words, &mut payloads)
+    let memory = Memory {
+        session,
+        log,
+        words,
+        payloads,
+    };
+    try_all(&rt, &memory)
 }

@@ -6,7 +6,7 @@ use session::Session;
 use std::io;
 use std::io::Read;
 
-// Performs what was read; a line that did not fit the buffer is no command.
+// Performs what was read; a line that did not fit the buffer is no command. The buffers stand apart here and below, as `session_commands::perform` is lent them.
 fn perform_step(
     s: &mut Session,
     buffer: &[u8],
