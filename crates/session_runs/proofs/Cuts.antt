@@ -26,7 +26,7 @@ use Rattle.agreement.proofs.Invariant.{Invariant}
 use Rattle.agreement.proofs.LogSteps.{down-restarts}
 use Rattle.agreement.proofs.Steps.{run-reached}
 use Rattle.session.specs.Limits.{first_pid, last_pid, last_epoch}
-use Rattle.session.specs.Memory.{Memory, memory}
+use Rattle.session.specs.Memory.{Memory}
 use Rattle.session.specs.Commands.{stays, next_epoch, restarts, cuts}
 use Rattle.session.proofs.CommandSteps.{other-coordinator}
 use Rattle.session.proofs.CommandsRefused.{answered-number, cut-unchanged}
