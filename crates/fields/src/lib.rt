@@ -1,7 +1,7 @@
 // The fields of a line, and what a field writes as a number.
 #![tactic(auto)]
 
-ghost use Rattle.std.specs.Prelude.{◌≡◌, ◌≤◌, eqb, false, true, pos, neg_ℤ, drop, MatchOption};
+ghost use Rattle.std.specs.Prelude.{◌≡◌, ◌≤◌, eqb, leb, ◌&&◌, false, true, pos, neg_ℤ, drop, MatchOption};
 ghost use Rattle.std.specs.Int.{w16, w32, w64};
 ghost use Rattle.fields.specs.Limits.{fields_max};
 ghost use Rattle.fields.specs.Fields.{separates, bytes_of, SplitInto, count, part_in, field_in};
@@ -82,12 +82,11 @@ pub fn split(line: &[u8]) -> Fields<'_>
 }
 
 impl<'a> Fields<'a> {
-    // Whether the line has n fields.
+    // Whether the line has n fields, of at most seven.
     pub fn has_exactly(&self, n: usize) -> bool
-        requires { n ≤ fields_max }
-        ensures { result ≡ eqb (count self.now.line.now) n }
+        ensures { result ≡ (leb n fields_max && eqb (count self.now.line.now) n) }
     {
-        self.count == n
+        n <= FIELDS_MAX && self.count == n
     }
 
     // Where field k stands; an empty part past the last field, and past the seventh.
