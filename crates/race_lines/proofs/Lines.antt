@@ -12,7 +12,7 @@ use Rattle.std.proofs.lemmas.List.{get_or-take}
 use Rattle.std.proofs.Math.Nat.{min-le_left}
 use lib.ListN.{length}
 use Rattle.numbers.specs.Ascii.{ascii}
-use Rattle.numbers.specs.Bytes.{same}
+use Rattle.numbers.proofs.Bytes.{compared}
 use Rattle.text.specs.Decimal.{decimal_within, decimal}
 use Rattle.text.specs.Lines.{field as field_written, fields, line, Wrote}
 use Rattle.text.proofs.Decimal.{decimal-most}
@@ -25,20 +25,6 @@ use Rattle.race_lines.specs.Limits.{answer_fields_max, answer_max}
 use Rattle.race_lines.specs.Lines.{race_word, board_of, request_of, answer_fields, answer_line, reply_line, written, bytes_after}
 
 -- ---- what a line asks
-
--- a field that is kept is the line's
-kept-bytes : (text : List ℕ) (k : ℕ) → k < fields_max → field_in text k ≡ field text k
-kept-bytes text k h = ap (bytes_of text) (get_or-take fields_max (fields_of text) k blank h)
-
-kept : (text : List ℕ) (k : ℕ) → k < fields_max → unsigned (field_in text k) ≡ unsigned (field text k)
-kept text k h = ap unsigned (kept-bytes text k h)
-
-compared : (a b : List ℕ) → pointwise eqb a b ≡ same a b
-unfolding same
-compared [] [] = refl
-compared [] (y ∷ b) = refl
-compared (x ∷ a) [] = refl
-compared (x ∷ a) (y ∷ b) = ap (λ (t : Bool). eqb x y && t) (compared a b)
 
 -- what the opposite of a test says of it
 pub off : {test opposite : Bool} → opposite ≡ not test → opposite ≡ true → test ≡ false
@@ -58,37 +44,30 @@ board_from (Some p) (Some t) (Some r) None = None
 board_from (Some p) (Some t) (Some r) (Some b) = Some (record { partitions = p; timeout = t; rounds = r; blocks = b })
 
 module _ (text : List ℕ) where
-  pub board-is : (p t r b : Option ℕ) → natural p ≡ unsigned (field_in text 1) → natural t ≡ unsigned (field_in text 2)
-      → natural r ≡ unsigned (field_in text 3) → natural b ≡ unsigned (field_in text 4) → board_from p t r b ≡ board_of text
-  board-is None t r b e1 e2 e3 e4 = rw (← (e1 ∙ kept text 1 (omega arith)))
-  board-is (Some p) None r b e1 e2 e3 e4 = rw (← (e1 ∙ kept text 1 (omega arith)), ← (e2 ∙ kept text 2 (omega arith)))
+  pub board-is : (p t r b : Option ℕ) → natural p ≡ unsigned (field text 1) → natural t ≡ unsigned (field text 2)
+      → natural r ≡ unsigned (field text 3) → natural b ≡ unsigned (field text 4) → board_from p t r b ≡ board_of text
+  board-is None t r b e1 e2 e3 e4 = rw (← e1)
+  board-is (Some p) None r b e1 e2 e3 e4 = rw (← e1, ← e2)
   board-is (Some p) (Some t) None b e1 e2 e3 e4 =
-      rw (← (e1 ∙ kept text 1 (omega arith)), ← (e2 ∙ kept text 2 (omega arith)), ← (e3 ∙ kept text 3 (omega arith)))
+      rw (← e1, ← e2, ← e3)
   board-is (Some p) (Some t) (Some r) None e1 e2 e3 e4 =
-      rw (← (e1 ∙ kept text 1 (omega arith)), ← (e2 ∙ kept text 2 (omega arith)), ← (e3 ∙ kept text 3 (omega arith)), ← (e4 ∙ kept text 4 (omega arith)))
+      rw (← e1, ← e2, ← e3, ← e4)
   board-is (Some p) (Some t) (Some r) (Some b) e1 e2 e3 e4 =
-      rw (← (e1 ∙ kept text 1 (omega arith)), ← (e2 ∙ kept text 2 (omega arith)), ← (e3 ∙ kept text 3 (omega arith)), ← (e4 ∙ kept text 4 (omega arith)))
+      rw (← e1, ← e2, ← e3, ← e4)
 
-  -- the count of the fields, of which no more than eight are told apart, and the word
-  pub request-count : {n : ℕ} → n ≡ min (count text) 8 → (n ≡ 5 → ⊥) → None ≡ request_of text
+  -- the count of the fields, and the word
+  pub request-count : eqb (count text) 5 ≡ false → None ≡ request_of text
   unfolding request_of
-  request-count e d = rw (ne_eqb (count text) 5 (λ f. d (e ∙ ap (λ (k : ℕ). min k 8) f)))
+  request-count e = rw e
 
-  module _ {n : ℕ} (e : n ≡ min (count text) 8) (f : n ≡ 5) where
-    five : count text ≡ 5
-    five = omega (arith, e, f, min-le_left (count text) 8)
-
-    -- the word of the line is `race` where the compared bytes say so
-    word : {t : Bool} → pointwise eqb (field_in text 0) race_word ≡ t → same (field text 0) race_word ≡ t
-    word w = sym (compared (field text 0) race_word) ∙ sym (ap (λ (s : List ℕ). pointwise eqb s race_word) (kept-bytes text 0 (omega arith))) ∙ w
-
-    pub request-word : pointwise eqb (field_in text 0) race_word ≡ false → None ≡ request_of text
+  module _ (five : eqb (count text) 5 ≡ true) where
+    pub request-word : pointwise eqb (field text 0) race_word ≡ false → None ≡ request_of text
     unfolding request_of
-    request-word w = rw (eq-eqb (count text) 5 five, word w)
+    request-word w = rw (five, ← compared (field text 0) race_word, w)
 
-    pub request-is : pointwise eqb (field_in text 0) race_word ≡ true → board_of text ≡ request_of text
+    pub request-is : pointwise eqb (field text 0) race_word ≡ true → board_of text ≡ request_of text
     unfolding request_of
-    request-is w = rw (eq-eqb (count text) 5 five, word w)
+    request-is w = rw (five, ← compared (field text 0) race_word, w)
 
 -- ---- the fields of an answer
 

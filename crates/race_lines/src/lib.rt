@@ -30,7 +30,10 @@ pub fn parse(line: &[u8]) -> Option<Board>
     ensures { result ≡ request_of line.now }
 {
     let fields = fields::split(line);
-    if fields.count() != 5 || fields.field(0) != b"race".as_slice() {
+    if !fields.has_exactly(5) {
+        return None;
+    }
+    if fields.field(0) != b"race".as_slice() {
         return None;
     }
     board_of(&fields)
