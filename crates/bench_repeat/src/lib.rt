@@ -87,7 +87,7 @@ fn ack(mut s: Coordinator, call: Call, count: usize, log: &mut [u8]) -> u64 {
     with_coordinator(sum, &s)
 }
 
-// The calls of one round; none of a kind that is not repeated.
+// The calls of one round; none of a kind that is not repeated. The kind is read from the script, so no caller has a step to give.
 fn round(
     server: &Server,
     call: Call,

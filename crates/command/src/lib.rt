@@ -93,7 +93,7 @@ fn is_word(run: &[u8], word: &[u8]) -> bool
     run == word
 }
 
-// The row of the command with this word; the last row if there is none.
+// The row of the command with this word; the last row if there is none: a place in the table of words, which the listing prints `?` from.
 fn row_of(run: &[u8]) -> usize
     ensures { result ≡ row_of run.now }
 {

@@ -6,7 +6,7 @@ ghost use Rattle.numbers.specs.Bytes.{overwrite};
 ghost use Rattle.lines.specs.Text.{is_line_feed};
 ghost use Rattle.lines.specs.Cursor.{line_end, pending_length, next_of, NextWithin, kept_cursor, kept_bytes, last_of, LastWithin};
 
-// The bytes of a buffer that are read and not yet handed on, from `from` to `end`. While `skipping`, they go on a line that did not fit the buffer.
+// The bytes of a buffer that are read and not yet handed on, from `from` to `end`: places and no slice, since the buffer is written again between two lines. While `skipping`, they go on a line that did not fit the buffer.
 #[derive(Clone, Copy)]
 pub struct Cursor {
     pub from: usize,

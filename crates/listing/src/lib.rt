@@ -25,7 +25,7 @@ pub enum Results {
     Payloads(usize),
 }
 
-// A line that is no command has no number; any other has 0 or that of its refusal.
+// A line that is no command has no number; any other has 0 or that of its refusal. A name of its own for the first reads plainer than None in the listing's definitions.
 #[derive(Clone, Copy)]
 pub enum Reply {
     Unknown,

@@ -132,7 +132,7 @@ fn has_room(n: usize, payloads: usize) -> bool
 
 // ---- A line.
 
-// Answers a line of any bytes: what it does to the session and the buffers, and how many bytes of the answer were written; none where the buffer is too short for some answers.
+// Answers a line of any bytes: what it does to the session and the buffers, and how many bytes of the answer were written; none, and so 0 as `responded` says, where the buffer is too short for some answers.
 pub fn respond(
     s: &mut Session,
     line: &[u8],

@@ -83,6 +83,7 @@ impl State {
             return call_answers::unknown(rt);
         };
         let p = &mut held.partition;
+        // The word of an input line says what is to be done, so no caller has a step to give.
         match kind {
             Kind::Read => word_calls::read(rt, p, line, words),
             Kind::Words => call_answers::show_words(rt, line, words),

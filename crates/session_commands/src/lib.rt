@@ -57,7 +57,7 @@ fn read(s: &Session, words: &[u64], payloads: &mut [u64], position: usize) -> Re
     Ok(Results::Payloads(copied.count))
 }
 
-// ---- All of them.
+// ---- All of them. Log, words and payloads are lent apart: the definitions of the commands take a memory of these four.
 
 // A command of a line: what it answers, and what it does to the session and the buffers. `left PLACE` answers how many partitions of the place's prepare are not acknowledged.
 pub fn perform(
