@@ -1,4 +1,5 @@
--- Laws of the crate fields, for the functions' own proofs.
+-- Laws of the crate fields: the public module is for callers too, the others for the functions' own proofs.
 mod Splitting
+pub mod Held
 mod Decimals
 mod Ranges

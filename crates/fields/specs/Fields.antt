@@ -3,6 +3,7 @@ use Rattle.std.specs.Prelude.{ℕ, ◌+◌, min, ◌≡◌, Bool, cond, ◌||◌
 use Prim.Native.Char.{code}
 use Rattle.fields.specs.Limits.{fields_max}
 use Rattle.fields.specs.declared.Part.{Part}
+use Rattle.fields.specs.declared.Parts.{Parts}
 
 -- whether a byte parts two fields
 abbrev pub separates : ℕ → Bool
@@ -50,3 +51,10 @@ part_in line k = cond (ltb k fields_max) (part_at line k) blank
 
 abbrev pub field_in : List ℕ → ℕ → List ℕ
 field_in line k = bytes_of line (part_in line k)
+
+-- where field k stands by any array of parts, and its bytes in any line: an empty part past the count, and past the seventh
+abbrev pub part_by : Parts → ℕ → Part
+part_by f k = get_or (take fields_max (take f.count f.parts)) k blank
+
+abbrev pub field_by : List ℕ → Parts → ℕ → List ℕ
+field_by line f k = bytes_of line (part_by f k)

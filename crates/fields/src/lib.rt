@@ -4,7 +4,7 @@
 ghost use Rattle.std.specs.Prelude.{◌≡◌, ◌≤◌, eqb, leb, ◌&&◌, false, true, pos, neg_ℤ, drop, MatchOption};
 ghost use Rattle.std.specs.Int.{w16, w32, w64};
 ghost use Rattle.fields.specs.Limits.{fields_max};
-ghost use Rattle.fields.specs.Fields.{separates, bytes_of, SplitInto, count, part_in, field_in};
+ghost use Rattle.fields.specs.Fields.{separates, bytes_of, SplitInto, count, part_in, field_in, part_by, field_by};
 ghost use Rattle.fields.specs.Numbers.{natural_of, natural, has_sign, integer_of, within, signed, unsigned, below_word};
 
 // The limit of specs/Limits.antt, under the same name.
@@ -17,13 +17,19 @@ pub struct Part {
     pub len: usize,
 }
 
-// A line and its fields, of which the first `count` parts are set; a line of more than seven has count 8.
+// The parts of a line, of which the first `count` are set; a line of more than seven has count 8. Anyone may make one: its methods take any line with any parts.
+#[derive(Clone, Copy)]
+pub struct Parts {
+    pub parts: [Part; FIELDS_MAX],
+    pub count: usize,
+}
+
+// A line and its fields, which are the line's own parts.
 #[derive(Clone, Copy)]
 pub struct Fields<'a> {
     line: &'a [u8],
-    parts: [Part; FIELDS_MAX],
-    count: usize,
-    ghost split: { SplitInto line.now parts count },
+    parts: Parts,
+    ghost split: { SplitInto line.now parts.parts parts.count },
 }
 
 // ---- Parts.
@@ -63,8 +69,10 @@ pub fn split(line: &[u8]) -> Fields<'_>
             if count == FIELDS_MAX {
                 return Fields {
                     line,
-                    parts,
-                    count: FIELDS_MAX + 1,
+                    parts: Parts {
+                        parts,
+                        count: FIELDS_MAX + 1,
+                    },
                 };
             }
             from = i + 1;
@@ -76,22 +84,17 @@ pub fn split(line: &[u8]) -> Fields<'_>
     };
     Fields {
         line,
-        parts,
-        count: count + 1,
+        parts: Parts {
+            parts,
+            count: count + 1,
+        },
     }
 }
 
-impl<'a> Fields<'a> {
-    // Whether the line has n fields, of at most seven.
-    pub fn has_exactly(&self, n: usize) -> bool
-        ensures { result ≡ (leb n fields_max && eqb (count self.now.line.now) n) }
-    {
-        n <= FIELDS_MAX && self.count == n
-    }
-
+impl Parts {
     // Where field k stands; an empty part past the last field, and past the seventh.
     pub fn part(&self, k: usize) -> Part
-        ensures { result ≡ part_in self.now.line.now k }
+        ensures { result ≡ part_by self.now k }
     {
         if FIELDS_MAX <= k || self.count <= k {
             return Part { from: 0, len: 0 };
@@ -99,41 +102,102 @@ impl<'a> Fields<'a> {
         self.parts[k]
     }
 
-    // The bytes of field k.
-    pub fn field(&self, k: usize) -> &'a [u8]
-        ensures { result.now ≡ field_in self.now.line.now k }
+    // The bytes of field k, of a line with these parts; the part is kept within the line.
+    pub fn field<'a>(&self, line: &'a [u8], k: usize) -> &'a [u8]
+        ensures { result.now ≡ field_by line.now self.now k }
     {
-        bytes_of(self.line, self.part(k))
+        bytes_of(line, self.part(k))
     }
 
     // ---- The number that field k writes, if its type holds it: a function for each type, as one over a trait would be longer by the trait's four impls.
 
+    pub fn signed_16(&self, line: &[u8], k: usize) -> Option<i16>
+        ensures { result ≡ signed w16 (field_by line.now self.now k) }
+    {
+        let number = read_number(self.field(line, k), 0x8000, 0x7fff)?;
+        Some(number as i16)
+    }
+
+    pub fn signed_32(&self, line: &[u8], k: usize) -> Option<i32>
+        ensures { result ≡ signed w32 (field_by line.now self.now k) }
+    {
+        let number = read_number(self.field(line, k), 0x8000_0000, 0x7fff_ffff)?;
+        Some(number as i32)
+    }
+
+    pub fn signed_64(&self, line: &[u8], k: usize) -> Option<i64>
+        ensures { result ≡ signed w64 (field_by line.now self.now k) }
+    {
+        let number = read_number(
+            self.field(line, k),
+            0x8000_0000_0000_0000,
+            0x7fff_ffff_ffff_ffff,
+        )?;
+        Some(number as i64)
+    }
+
+    pub fn unsigned_64(&self, line: &[u8], k: usize) -> Option<u64>
+        ensures { natural result ≡ unsigned (field_by line.now self.now k) }
+    {
+        let number = read_number(self.field(line, k), 0, u64::MAX)?;
+        Some(number as u64)
+    }
+}
+
+// The same of a line's own parts.
+impl<'a> Fields<'a> {
+    // The parts that the line was split into.
+    pub fn parts(&self) -> Parts
+        ensures { SplitInto self.now.line.now result.parts result.count }
+    {
+        self.parts
+    }
+
+    // Whether the line has n fields, of at most seven.
+    pub fn has_exactly(&self, n: usize) -> bool
+        ensures { result ≡ (leb n fields_max && eqb (count self.now.line.now) n) }
+    {
+        n <= FIELDS_MAX && self.parts.count == n
+    }
+
+    // Where field k stands; an empty part past the last field, and past the seventh.
+    pub fn part(&self, k: usize) -> Part
+        ensures { result ≡ part_in self.now.line.now k }
+    {
+        self.parts.part(k)
+    }
+
+    // The bytes of field k.
+    pub fn field(&self, k: usize) -> &'a [u8]
+        ensures { result.now ≡ field_in self.now.line.now k }
+    {
+        self.parts.field(self.line, k)
+    }
+
+    // ---- The number that field k writes, if its type holds it.
+
     pub fn signed_16(&self, k: usize) -> Option<i16>
         ensures { result ≡ signed w16 (field_in self.now.line.now k) }
     {
-        let number = read_number(self.field(k), 0x8000, 0x7fff)?;
-        Some(number as i16)
+        self.parts.signed_16(self.line, k)
     }
 
     pub fn signed_32(&self, k: usize) -> Option<i32>
         ensures { result ≡ signed w32 (field_in self.now.line.now k) }
     {
-        let number = read_number(self.field(k), 0x8000_0000, 0x7fff_ffff)?;
-        Some(number as i32)
+        self.parts.signed_32(self.line, k)
     }
 
     pub fn signed_64(&self, k: usize) -> Option<i64>
         ensures { result ≡ signed w64 (field_in self.now.line.now k) }
     {
-        let number = read_number(self.field(k), 0x8000_0000_0000_0000, 0x7fff_ffff_ffff_ffff)?;
-        Some(number as i64)
+        self.parts.signed_64(self.line, k)
     }
 
     pub fn unsigned_64(&self, k: usize) -> Option<u64>
         ensures { natural result ≡ unsigned (field_in self.now.line.now k) }
     {
-        let number = read_number(self.field(k), 0, u64::MAX)?;
-        Some(number as u64)
+        self.parts.unsigned_64(self.line, k)
     }
 }
 
