@@ -50,7 +50,7 @@ module _ (below most : ℕ) where
   abbrev fit : Option ℤ → Option ℤ
   fit = within (neg_ℤ (pos below)) (pos most)
 
-  negated_fits : (n : ℕ) → n ≤ below → fit (negated (Some n)) ≡ Some (neg_ℤ (pos n))
+  pub negated_fits : (n : ℕ) → n ≤ below → fit (negated (Some n)) ≡ Some (neg_ℤ (pos n))
   negated_fits n h = rw (range-negated below most n, le-leb n below h)
 
   negated-past : (n : ℕ) → below < n → fit (negated (Some n)) ≡ None
