@@ -2,7 +2,7 @@
 #![tactic(auto)]
 
 use std::env::FillError;
-use std::rt::Env;
+use std::rt::{Env, Files};
 
 // The system takes no longer path.
 const PATH_ROOM: usize = 4096;
@@ -37,6 +37,12 @@ fn argument<'a>(
     }
 }
 
+// Prints the report of a log file under the catalogue of another. The log's buffer stands here and not in `main`, which would fill it twice.
+fn print_report(rt: &(impl Files + Print + Eprint), catalogue: &[u8], log: &[u8]) {
+    let mut buffer = [0u8; log_files::LOG_ROOM];
+    log_files::print_report(rt, catalogue, log, &mut buffer);
+}
+
 fn main(rt: HostRuntime) {
     if !has_argument(&rt, 2) || has_argument(&rt, 3) {
         let _ = eprintln!(rt; "usage: open_log CATALOGUE LOG");
@@ -50,6 +56,5 @@ fn main(rt: HostRuntime) {
     let Some(log) = argument(&rt, 2, "LOG", &mut log_room) else {
         return;
     };
-    let mut buffer = [0u8; log_files::LOG_ROOM];
-    log_files::print_report(&rt, catalogue, log, &mut buffer);
+    print_report(&rt, catalogue, log);
 }
