@@ -53,3 +53,13 @@ pub fn noted(outcome: Outcome, server: &Server) -> [u64; WIDTH] {
         p.coordinator as u64,
     ]
 }
+
+// Writes numbers from a place on, if there is room.
+pub fn write_note(notes: &mut [u64], at: usize, note: [u64; WIDTH]) {
+    if let Some(place) = notes
+        .get_mut(at..)
+        .and_then(|rest| rest.first_chunk_mut::<WIDTH>())
+    {
+        *place = note;
+    }
+}

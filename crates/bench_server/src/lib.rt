@@ -49,6 +49,9 @@ pub fn kind_of(number: u64) -> Option<Kind> {
     KINDS.get(number as usize).copied()
 }
 
+// The kind of no call, and the number of the answer to one that cannot be made.
+pub const UNKNOWN: u64 = 99;
+
 // A call: its kind, the bytes of the log and the words that it is lent, the part of the names that is its name, and its arguments in document 01's order.
 #[derive(Clone, Copy)]
 pub struct Call {
@@ -60,7 +63,7 @@ pub struct Call {
     pub arguments: [u64; 5],
 }
 
-// A number of a script, which is two's complement, as a signed one of a width; where it does not fit, the nearest. A signed integer has `!` at every value.
+// A number of a script, which is two's complement, as a signed one of a width; where it does not fit, the nearest. Only for callers whose integer has `!` at every value, as each signed one has.
 pub fn signed<T: Integer + Not<Output = T>>(x: u64) -> T
     requires { (y : T) → T.can_not y }
 {

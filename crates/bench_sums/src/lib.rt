@@ -11,14 +11,14 @@ use partition::Partition;
 const NAME_STRIDE: usize = record::NAME_MAX;
 
 // A sum of answers with one more.
-fn with_outcome(sum: u64, outcome: Outcome) -> u64 {
+pub fn with_outcome(sum: u64, outcome: Outcome) -> u64 {
     let [first, second, _, _, _, _] = outcome.results;
     sum.wrapping_add(outcome.number)
         .wrapping_add(first)
         .wrapping_add(second)
 }
 
-// The sum of the answers of a call that is made so many times, each time with the number of calls before it.
+// The sum of the answers of a call that is made so many times, each time with the number of calls before it. Only for callers whose call may be made at any time.
 pub fn sum_of<F: FnMut(usize) -> Outcome>(count: usize, mut make: F) -> u64
     requires { F.IsAlwaysCallable make }
 {

@@ -1,6 +1,5 @@
 // The lines that write or show the stores: the catalogue's text, the bytes of the log, the words of a partition.
 use crate::{end_line, hexadecimal, unknown, word, words};
-use arrayvec::ArrayVec;
 use call_lines::{field, number};
 use std::io;
 
@@ -13,13 +12,14 @@ fn text_byte(b: u8) -> u8 {
     }
 }
 
-// The catalogue's text that a run stands for, if there is room for it.
-fn text_of<const N: usize>(run: &[u8]) -> Option<ArrayVec<u8, N>> {
-    let mut text = ArrayVec::try_from(run).ok()?;
-    for b in &mut text {
+// Writes the catalogue's text that a run stands for to the front of its store, and answers its length, if there is room for it.
+fn write_text(store: &mut [u8], run: &[u8]) -> Option<usize> {
+    let text = store.get_mut(..run.len())?;
+    text.copy_from_slice(run);
+    for b in text {
         *b = text_byte(*b);
     }
-    Some(text)
+    Some(run.len())
 }
 
 // Writes the word of a line that was obeyed, or `?` for one that was not.
@@ -31,13 +31,14 @@ pub fn obeyed(rt: &impl Print, line: &[u8], done: Option<()>) -> io::Result<()> 
     end_line(rt)
 }
 
-// `catalogue TEXT`: another text; the one before stays if it does not fit.
-pub fn write_catalogue<const N: usize>(
+// `catalogue TEXT`: another text, the first bytes of its store; the one before stays if it does not fit.
+pub fn write_catalogue(
     rt: &impl Print,
     line: &[u8],
-    text: &mut ArrayVec<u8, N>,
+    store: &mut [u8],
+    length: &mut usize,
 ) -> io::Result<()> {
-    let written = text_of(field(line, 1)).map(|new| *text = new);
+    let written = write_text(store, field(line, 1)).map(|new| *length = new);
     obeyed(rt, line, written)
 }
 

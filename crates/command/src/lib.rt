@@ -10,7 +10,9 @@ ghost use Rattle.command.specs.Command.{one_number, ReadsChange, init_of, add_of
 
 use fields::{Fields, Part};
 
-// The limit of specs/Limits.antt, under the same name.
+// The limits of specs/Limits.antt, under the same names.
+pub const WORD_MAX: usize = 5;
+
 pub const COMMANDS: usize = 10;
 
 // The words of the commands, and `?` for a line that is no command.

@@ -1,34 +1,35 @@
 // The state of a call script with its stores, and what a line does to it.
 #![tactic(auto)]
 
-use arrayvec::ArrayVec;
 use call_lines::{Kind, number};
 use coordinator::Coordinator;
 use partition::Partition;
 use std::io;
 
-const PARTITIONS: usize = 3;
+pub const PARTITIONS: usize = 3;
 
-const WORDS_ROOM: usize = 256;
+// The words of each partition.
+pub const WORDS_ROOM: usize = 256;
 
-const TEXT_ROOM: usize = 256;
+pub const TEXT_ROOM: usize = 256;
 
-const LOG_ROOM: usize = 8192;
+pub const LOG_ROOM: usize = 8192;
 
 // A partition and its words.
 #[derive(Clone, Copy)]
-struct Held {
-    partition: Partition,
-    words: [u64; WORDS_ROOM],
+pub struct Held {
+    pub partition: Partition,
+    pub words: [u64; WORDS_ROOM],
 }
 
-// The catalogue's text, the coordinator and its log, and the partitions.
-#[derive(Drop)]
+// The catalogue's text, which is the first bytes of an array, the coordinator and its log, and the partitions.
+#[derive(Clone, Copy)]
 pub struct State {
-    text: ArrayVec<u8, TEXT_ROOM>,
-    coordinator: Coordinator,
-    log: [u8; LOG_ROOM],
-    partitions: [Held; PARTITIONS],
+    pub text: [u8; TEXT_ROOM],
+    pub length: usize,
+    pub coordinator: Coordinator,
+    pub log: [u8; LOG_ROOM],
+    pub partitions: [Held; PARTITIONS],
 }
 
 // How many words of its partition a line is lent; `words` may show them all.
@@ -43,13 +44,16 @@ impl State {
     // An opening of the empty log with the catalogue of document 01's listing, and empty partitions.
     pub fn opened() -> State {
         let first = b"scan\t2\ncert\t1\n";
+        let mut text = [0u8; TEXT_ROOM];
+        text[..first.len()].copy_from_slice(first);
         let log = [0u8; LOG_ROOM];
         let empty = Held {
             partition: calls::open_partition(WORDS_ROOM),
             words: [0; WORDS_ROOM],
         };
         State {
-            text: ArrayVec::try_from(&first[..]).unwrap_or_default(),
+            text,
+            length: first.len(),
             coordinator: calls::opening(first, &log, 0, 1, 1000, 1999).unwrap_or(
                 opening::blank_state(),
             ),
@@ -100,7 +104,9 @@ impl State {
             Kind::Unknown => call_answers::unknown(rt),
             Kind::Bytes => call_answers::write_log(rt, line, &mut self.log),
             Kind::Log => call_answers::show_log(rt, line, &self.log),
-            Kind::Catalogue => call_answers::write_catalogue(rt, line, &mut self.text),
+            Kind::Catalogue => {
+                call_answers::write_catalogue(rt, line, &mut self.text, &mut self.length)
+            }
             Kind::Epoch => self.set_epoch(rt, line),
             Kind::Sequence => self.set_sequence(rt, line),
             Kind::Words | Kind::Partition | Kind::Produce | Kind::Marker | Kind::Read => {
@@ -111,7 +117,7 @@ impl State {
                 &mut self.coordinator,
                 kind,
                 line,
-                &self.text,
+                &self.text[..self.length.min(TEXT_ROOM)],
                 &mut self.log,
             ),
         }
