@@ -87,60 +87,12 @@ where
     T::try_from(number).ok()
 }
 
-// A type of integers, and the nearest of them to any number.
-pub trait Nearest: Default {
-    fn nearest(number: i128) -> Self;
-}
-
-// The number of this type, or else the least or the most of it.
-fn within<T: TryFrom<i128> + Copy>(number: i128, least: T, most: T) -> T
+// The number of field k, or 0 where it writes none of this type.
+pub fn number<T: TryFrom<i128> + Default>(line: &[u8], k: usize) -> T
 where
     T::Error: Drop,
 {
-    T::try_from(number).unwrap_or(if number < 0 { least } else { most })
-}
-
-impl Nearest for i16 {
-    fn nearest(number: i128) -> i16 {
-        within(number, i16::MIN, i16::MAX)
-    }
-}
-
-impl Nearest for i32 {
-    fn nearest(number: i128) -> i32 {
-        within(number, i32::MIN, i32::MAX)
-    }
-}
-
-impl Nearest for i64 {
-    fn nearest(number: i128) -> i64 {
-        within(number, i64::MIN, i64::MAX)
-    }
-}
-
-impl Nearest for u64 {
-    fn nearest(number: i128) -> u64 {
-        within(number, 0, u64::MAX)
-    }
-}
-
-impl Nearest for usize {
-    fn nearest(number: i128) -> usize {
-        within(number, 0, usize::MAX)
-    }
-}
-
-// Whether 64 bits and a sign hold it.
-fn is_held(number: i128) -> bool {
-    number.unsigned_abs() <= u64::MAX as u128
-}
-
-// The number of field k, 0 if it writes none that 64 bits and a sign hold; one past its type becomes the nearest.
-pub fn number<T: Nearest>(line: &[u8], k: usize) -> T {
-    match parsed(field(line, k)) {
-        Some(number) if is_held(number) => T::nearest(number),
-        _ => T::default(),
-    }
+    parsed(field(line, k)).unwrap_or_default()
 }
 
 // Whether a run is bytes of two small hexadecimal digits each.
