@@ -22,7 +22,7 @@ pub struct Held {
     pub words: [u64; WORDS_ROOM],
 }
 
-// The catalogue's text, which is the first bytes of an array, the coordinator and its log, and the partitions.
+// The catalogue's text, the coordinator and its log, and the partitions. The text is the first `length` bytes of an array, since a state can be copied and an `ArrayVec` can not.
 #[derive(Clone, Copy)]
 pub struct State {
     pub text: [u8; TEXT_ROOM],
