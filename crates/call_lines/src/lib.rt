@@ -80,11 +80,7 @@ fn parsed<T: TryFrom<i128>>(run: &[u8]) -> Option<T>
 where
     T::Error: Drop,
 {
-    if run.starts_with(b"+") {
-        return None;
-    }
-    let number: i128 = str::from_utf8(run).ok()?.parse().ok()?;
-    T::try_from(number).ok()
+    T::try_from(fields::read_number(run, u64::MAX, u64::MAX)?).ok()
 }
 
 // The number of field k, or 0 where it writes none of this type.
