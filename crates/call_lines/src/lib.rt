@@ -111,7 +111,7 @@ fn is_field(run: &[u8], kind: FieldKind) -> bool {
 // Whether a line is this word and one field of each of these kinds.
 fn is_line(line: &[u8], word: &[u8], kinds: &[FieldKind]) -> bool {
     field(line, 0) == word
-        && line.split(|b| *b == b' ').count() == 1 + kinds.len()
+        && line.iter().filter(|b| **b == b' ').count() == kinds.len()
         && line
             .split(|b| *b == b' ')
             .skip(1)
