@@ -75,7 +75,7 @@ pub fn field(line: &[u8], k: usize) -> &[u8] {
     line.split(|b| *b == b' ').nth(k).unwrap_or(b"")
 }
 
-// The number that a run of bytes writes in decimal, if its type holds it. The only sign is `-`, also before 0.
+// The number that a run of bytes writes in decimal, if 64 bits and a sign hold it, and its type. The only sign is `-`, also before 0.
 fn parsed<T: TryFrom<i128>>(run: &[u8]) -> Option<T>
 where
     T::Error: Drop,
