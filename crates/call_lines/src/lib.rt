@@ -111,12 +111,12 @@ fn is_field(run: &[u8], kind: FieldKind) -> bool {
 // Whether a line is this word and one field of each of these kinds.
 fn is_line(line: &[u8], word: &[u8], kinds: &[FieldKind]) -> bool {
     field(line, 0) == word
-        && line.iter().filter(|b| **b == b' ').count() == kinds.len()
         && line
             .split(|b| *b == b' ')
             .skip(1)
             .zip(kinds)
             .all(|(run, kind)| is_field(run, *kind))
+        && line.iter().filter(|b| **b == b' ').count() == kinds.len()
 }
 
 // Which line it is, whatever its bytes; an empty one and a comment are blank.
