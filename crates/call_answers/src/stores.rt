@@ -1,6 +1,6 @@
 // The lines that write or show the stores: the catalogue's text, the bytes of the log, the words of a partition.
 use crate::{end_line, hexadecimal, unknown, word, words};
-use call_lines::{field, number};
+use call_lines::{field, number_of_64_bits};
 use std::io;
 
 // A catalogue's byte: `:` stands for a tab and `,` for a line feed.
@@ -50,7 +50,11 @@ fn write_digits(log: &mut [u8], at: usize, digits: &[u8]) -> Option<()> {
 
 // `bytes AT HEX`
 pub fn write_log(rt: &impl Print, line: &[u8], log: &mut [u8]) -> io::Result<()> {
-    obeyed(rt, line, write_digits(log, number(line, 1), field(line, 2)))
+    obeyed(
+        rt,
+        line,
+        write_digits(log, number_of_64_bits(line, 1), field(line, 2)),
+    )
 }
 
 // So many items of a store from a place on, if it has them.
@@ -60,7 +64,7 @@ fn part_of<T>(store: &[T], from: usize, count: usize) -> Option<&[T]> {
 
 // `log FROM COUNT`
 pub fn show_log(rt: &impl Print, line: &[u8], log: &[u8]) -> io::Result<()> {
-    let Some(shown) = part_of(log, number(line, 1), number(line, 2)) else {
+    let Some(shown) = part_of(log, number_of_64_bits(line, 1), number_of_64_bits(line, 2)) else {
         return unknown(rt);
     };
     word(rt, line)?;
@@ -70,7 +74,11 @@ pub fn show_log(rt: &impl Print, line: &[u8], log: &[u8]) -> io::Result<()> {
 
 // `words INDEX FROM COUNT`, of the words of that partition.
 pub fn show_words(rt: &impl Print, line: &[u8], store: &[u64]) -> io::Result<()> {
-    let Some(shown) = part_of(store, number(line, 2), number(line, 3)) else {
+    let Some(shown) = part_of(
+        store,
+        number_of_64_bits(line, 2),
+        number_of_64_bits(line, 3),
+    ) else {
         return unknown(rt);
     };
     word(rt, line)?;

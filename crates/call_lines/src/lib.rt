@@ -1,6 +1,8 @@
 // The lines of a call script: the fields of a line, the numbers that they write, and which line it is by its word and the kinds of its fields.
 #![tactic(auto)]
 
+ghost use Rattle.std.specs.Prelude.{◌≢◌, get_or, IfSome};
+
 // Which line it is.
 #[derive(Clone, Copy, Debug, PartialEq, Eq)]
 pub enum Kind {
@@ -75,12 +77,17 @@ pub fn field(line: &[u8], k: usize) -> &[u8] {
     line.split(|b| *b == b' ').nth(k).unwrap_or(b"")
 }
 
-// The number that a run of bytes writes in decimal, if 64 bits and a sign hold it, and its type. The only sign is `-`, also before 0.
+// The number that a run of bytes writes in decimal, if its type holds it. The only sign is `-`, also before 0; 43 is `+`.
 fn parsed<T: TryFrom<i128>>(run: &[u8]) -> Option<T>
 where
     T::Error: Drop,
+    ensures { IfSome result (λ _. get_or run.now 0 0 ≢ 43) }
 {
-    T::try_from(fields::read_number(run, u64::MAX, u64::MAX)?).ok()
+    if run.starts_with(b"+") {
+        return None;
+    }
+    let number: i128 = str::from_utf8(run).ok()?.parse().ok()?;
+    T::try_from(number).ok()
 }
 
 // The number of field k, or 0 where it writes none of this type.
@@ -91,6 +98,22 @@ where
     parsed(field(line, k)).unwrap_or_default()
 }
 
+// The same of a number that 64 bits and a sign hold, which is read in less time. No line of a script has a longer one.
+fn parsed_of_64_bits<T: TryFrom<i128>>(run: &[u8]) -> Option<T>
+where
+    T::Error: Drop,
+{
+    T::try_from(fields::read_number(run, u64::MAX, u64::MAX)?).ok()
+}
+
+// The number of field k, or 0 where it writes none of this type, or one that 64 bits and a sign do not hold.
+pub fn number_of_64_bits<T: TryFrom<i128> + Default>(line: &[u8], k: usize) -> T
+where
+    T::Error: Drop,
+{
+    parsed_of_64_bits(field(line, k)).unwrap_or_default()
+}
+
 // Whether a run is bytes of two small hexadecimal digits each.
 fn is_bytes(run: &[u8]) -> bool {
     run.len() % 2 == 0 && run.iter().all(|b| matches!(b, b'0'..=b'9' | b'a'..=b'f'))
@@ -99,10 +122,10 @@ fn is_bytes(run: &[u8]) -> bool {
 // Whether a run is a field of this kind.
 fn is_field(run: &[u8], kind: FieldKind) -> bool {
     match kind {
-        I16 => parsed::<i16>(run).is_some(),
-        I32 => parsed::<i32>(run).is_some(),
-        I64 => parsed::<i64>(run).is_some(),
-        U64 => parsed::<u64>(run).is_some(),
+        I16 => parsed_of_64_bits::<i16>(run).is_some(),
+        I32 => parsed_of_64_bits::<i32>(run).is_some(),
+        I64 => parsed_of_64_bits::<i64>(run).is_some(),
+        U64 => parsed_of_64_bits::<u64>(run).is_some(),
         Hexadecimal => is_bytes(run),
         Text => true,
     }
@@ -128,4 +151,23 @@ pub fn kind_of(line: &[u8]) -> Kind {
         .iter()
         .find(|(word, kinds, _)| is_line(line, word, kinds))
         .map_or(Kind::Unknown, |(_, _, kind)| *kind)
+}
+
+#[cfg(test)]
+mod tests {
+    use super::*;
+
+    // The limits of i128 and one past them, a number of 65 bits, and the signs.
+    #[test]
+    fn numbers_past_64_bits(rt: HostRuntime) {
+        let line =
+            b"170141183460469231731687303715884105727 -170141183460469231731687303715884105728 170141183460469231731687303715884105728 000018446744073709551616 +5 -0";
+        let read = [i128::MAX, i128::MIN, 0, 1 << 64, 0, 0];
+        for (k, want) in read.into_iter().enumerate() {
+            assert_eq!(rt; number::<i128>(line, k), want, "field {k}");
+        }
+        assert_eq!(rt; number::<u128>(line, 0), i128::MAX as u128);
+        assert_eq!(rt; number::<u128>(line, 1), 0);
+        assert_eq!(rt; number::<u64>(line, 3), 0);
+    }
 }

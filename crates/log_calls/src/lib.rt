@@ -2,7 +2,7 @@
 #![tactic(auto)]
 
 use call_answers::{accepted, answered};
-use call_lines::{Kind, field, number};
+use call_lines::{Kind, field, number_of_64_bits};
 use coordinator::Coordinator;
 use std::io;
 
@@ -17,10 +17,10 @@ fn open(
     let opened = calls::opening(
         text,
         log,
-        number(line, 2),
-        number(line, 3),
-        number(line, 4),
-        number(line, 5),
+        number_of_64_bits(line, 2),
+        number_of_64_bits(line, 3),
+        number_of_64_bits(line, 4),
+        number_of_64_bits(line, 5),
     );
     match opened {
         Ok(state) => {
@@ -36,7 +36,13 @@ fn init(rt: &impl Print, c: &mut Coordinator, line: &[u8], log: &mut [u8]) -> io
     let name = field(line, 2);
     answered(
         rt,
-        calls::init(c, log, name, number(line, 3), number(line, 4)),
+        calls::init(
+            c,
+            log,
+            name,
+            number_of_64_bits(line, 3),
+            number_of_64_bits(line, 4),
+        ),
     )
 }
 
@@ -46,10 +52,10 @@ fn add(rt: &impl Print, c: &mut Coordinator, line: &[u8], log: &mut [u8]) -> io:
         c,
         log,
         field(line, 2),
-        number(line, 3),
-        number(line, 4),
-        number(line, 5),
-        number(line, 6),
+        number_of_64_bits(line, 3),
+        number_of_64_bits(line, 4),
+        number_of_64_bits(line, 5),
+        number_of_64_bits(line, 6),
     );
     answered(rt, answer)
 }
@@ -60,10 +66,10 @@ fn end(rt: &impl Print, c: &mut Coordinator, line: &[u8], log: &mut [u8]) -> io:
         c,
         log,
         field(line, 2),
-        number(line, 3),
-        number(line, 4),
-        number(line, 5),
-        number(line, 6),
+        number_of_64_bits(line, 3),
+        number_of_64_bits(line, 4),
+        number_of_64_bits(line, 5),
+        number_of_64_bits(line, 6),
     );
     answered(rt, answer)
 }
@@ -73,10 +79,10 @@ fn ack(rt: &impl Print, c: &mut Coordinator, line: &[u8], log: &mut [u8]) -> io:
     let answer = calls::ack(
         c,
         log,
-        number(line, 2),
-        number(line, 3),
-        number(line, 4),
-        number(line, 5),
+        number_of_64_bits(line, 2),
+        number_of_64_bits(line, 3),
+        number_of_64_bits(line, 4),
+        number_of_64_bits(line, 5),
     );
     answered(rt, answer)
 }
@@ -96,10 +102,10 @@ fn lent(
         Kind::Init => init(rt, c, line, log),
         Kind::Add => add(rt, c, line, log),
         Kind::End => end(rt, c, line, log),
-        Kind::Tick => answered(rt, calls::tick(c, log, number(line, 2))),
+        Kind::Tick => answered(rt, calls::tick(c, log, number_of_64_bits(line, 2))),
         Kind::Ack => ack(rt, c, line, log),
-        Kind::Flush => answered(rt, calls::flush(c, number(line, 1))),
-        Kind::Order => accepted(rt, calls::order(c, number(line, 1))),
+        Kind::Flush => answered(rt, calls::flush(c, number_of_64_bits(line, 1))),
+        Kind::Order => accepted(rt, calls::order(c, number_of_64_bits(line, 1))),
         _ => Ok(()),
     }
 }
@@ -108,7 +114,7 @@ fn lent(
 fn lent_length(kind: Kind, line: &[u8]) -> usize {
     match kind {
         Kind::Flush | Kind::Order => 0,
-        _ => number(line, 1),
+        _ => number_of_64_bits(line, 1),
     }
 }
 

@@ -1,7 +1,7 @@
 // The state of a call script with its stores, and what a line does to it.
 #![tactic(auto)]
 
-use call_lines::{Kind, number};
+use call_lines::{Kind, number_of_64_bits};
 use coordinator::Coordinator;
 use partition::Partition;
 use std::io;
@@ -36,7 +36,7 @@ pub struct State {
 fn lent_words(kind: Kind, line: &[u8]) -> usize {
     match kind {
         Kind::Words => WORDS_ROOM,
-        _ => number(line, 2),
+        _ => number_of_64_bits(line, 2),
     }
 }
 
@@ -64,22 +64,30 @@ impl State {
 
     // `epoch PLACE EPOCH`: another epoch for the id at a place, since calls would take as many turns to get there.
     fn set_epoch(&mut self, rt: &impl Print, line: &[u8]) -> io::Result<()> {
-        let set = script_values::set_epoch(&mut self.coordinator, number(line, 1), number(line, 2));
+        let set = script_values::set_epoch(
+            &mut self.coordinator,
+            number_of_64_bits(line, 1),
+            number_of_64_bits(line, 2),
+        );
         call_answers::obeyed(rt, line, set)
     }
 
     // `sequence INDEX PLACE SEQUENCE`: another last sequence for the producer at a place of a partition.
     fn set_sequence(&mut self, rt: &impl Print, line: &[u8]) -> io::Result<()> {
-        let index: usize = number(line, 1);
+        let index: usize = number_of_64_bits(line, 1);
         let set = self.partitions.get_mut(index).and_then(|held| {
-            script_values::set_sequence(&mut held.partition, number(line, 2), number(line, 3))
+            script_values::set_sequence(
+                &mut held.partition,
+                number_of_64_bits(line, 2),
+                number_of_64_bits(line, 3),
+            )
         });
         call_answers::obeyed(rt, line, set)
     }
 
     // A line with the index of a partition.
     fn call_partition(&mut self, rt: &impl Print, kind: Kind, line: &[u8]) -> io::Result<()> {
-        let index: usize = number(line, 1);
+        let index: usize = number_of_64_bits(line, 1);
         let Some(held) = self.partitions.get_mut(index) else {
             return call_answers::unknown(rt);
         };

@@ -1,7 +1,7 @@
 // The lines with a call of a partition. Each is lent the words that its line says, and answers the partition's state after it.
 #![tactic(auto)]
 
-use call_lines::{Kind, field, number};
+use call_lines::{Kind, field, number_of_64_bits};
 use coordinator::Coordinator;
 use partition::Partition;
 use std::io;
@@ -24,11 +24,11 @@ fn produce(
         p,
         words,
         field(line, 3),
-        number(line, 4),
-        number(line, 5),
-        number(line, 6),
-        number(line, 7),
-        number(line, 8),
+        number_of_64_bits(line, 4),
+        number_of_64_bits(line, 5),
+        number_of_64_bits(line, 6),
+        number_of_64_bits(line, 7),
+        number_of_64_bits(line, 8),
     );
     call_answers::answered(rt, answer)
 }
@@ -38,11 +38,11 @@ fn marker(rt: &impl Print, p: &mut Partition, line: &[u8], words: &mut [u64]) ->
     let answer = calls::marker(
         p,
         words,
-        number(line, 3),
-        number(line, 4),
-        number(line, 5),
-        number(line, 6),
-        number(line, 7),
+        number_of_64_bits(line, 3),
+        number_of_64_bits(line, 4),
+        number_of_64_bits(line, 5),
+        number_of_64_bits(line, 6),
+        number_of_64_bits(line, 7),
     );
     call_answers::answered(rt, answer)
 }
@@ -76,11 +76,11 @@ pub fn perform(
 // `read INDEX LENT FROM ROOM`: performs a read and writes its answer and all words of out, so that those that it does not touch are seen.
 pub fn read(rt: &impl Print, p: &Partition, line: &[u8], words: &[u64]) -> io::Result<()> {
     let mut all = [UNTOUCHED; OUT_ROOM];
-    let Some(out) = all.get_mut(..number(line, 4)) else {
+    let Some(out) = all.get_mut(..number_of_64_bits(line, 4)) else {
         return call_answers::unknown(rt);
     };
     call_answers::word(rt, line)?;
-    call_answers::answered(rt, calls::read(p, words, number(line, 3), out))?;
+    call_answers::answered(rt, calls::read(p, words, number_of_64_bits(line, 3), out))?;
     call_answers::partition(rt, p)?;
     call_answers::words(rt, out)?;
     call_answers::end_line(rt)
