@@ -98,7 +98,7 @@ where
     parsed(field(line, k)).unwrap_or_default()
 }
 
-// The same of a number that 64 bits and a sign hold, which is read in less time. No line of a script has a longer one.
+// What `parsed` gives, if 64 bits and a sign hold the number too, in less time. A number of a script's line is no longer.
 fn parsed_of_64_bits<T: TryFrom<i128>>(run: &[u8]) -> Option<T>
 where
     T::Error: Drop,
@@ -106,7 +106,7 @@ where
     T::try_from(fields::read_number(run, u64::MAX, u64::MAX)?).ok()
 }
 
-// The number of field k, or 0 where it writes none of this type, or one that 64 bits and a sign do not hold.
+// The number of field k of a script's line: 0 where it writes none of this type, or one that 64 bits and a sign do not hold.
 pub fn number_of_64_bits<T: TryFrom<i128> + Default>(line: &[u8], k: usize) -> T
 where
     T::Error: Drop,
@@ -157,17 +157,19 @@ pub fn kind_of(line: &[u8]) -> Kind {
 mod tests {
     use super::*;
 
-    // The limits of i128 and one past them, a number of 65 bits, and the signs.
+    // The limits of i128 and one past each, a number of 65 bits, and the signs.
     #[test]
     fn numbers_past_64_bits(rt: HostRuntime) {
         let line =
-            b"170141183460469231731687303715884105727 -170141183460469231731687303715884105728 170141183460469231731687303715884105728 000018446744073709551616 +5 -0";
-        let read = [i128::MAX, i128::MIN, 0, 1 << 64, 0, 0];
+            b"170141183460469231731687303715884105727 -170141183460469231731687303715884105728 170141183460469231731687303715884105728 -170141183460469231731687303715884105729 000018446744073709551616 +5 -7";
+        let read = [i128::MAX, i128::MIN, 0, 0, 1 << 64, 0, -7];
         for (k, want) in read.into_iter().enumerate() {
             assert_eq!(rt; number::<i128>(line, k), want, "field {k}");
         }
         assert_eq!(rt; number::<u128>(line, 0), i128::MAX as u128);
         assert_eq!(rt; number::<u128>(line, 1), 0);
-        assert_eq!(rt; number::<u64>(line, 3), 0);
+        assert_eq!(rt; number::<u64>(line, 4), 0);
+        assert_eq!(rt; number_of_64_bits::<i128>(line, 4), 0);
+        assert_eq!(rt; number_of_64_bits::<i128>(line, 6), -7);
     }
 }
