@@ -98,7 +98,7 @@ where
     parsed(field(line, k)).unwrap_or_default()
 }
 
-// What `parsed` gives, if 64 bits and a sign hold the number too, in less time. A number of a script's line is no longer.
+// What `parsed` gives, if 64 bits and a sign hold the number too, in less time. The numbers of a script's line are at most that long.
 fn parsed_of_64_bits<T: TryFrom<i128>>(run: &[u8]) -> Option<T>
 where
     T::Error: Drop,
